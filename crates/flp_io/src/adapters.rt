@@ -1,0 +1,97 @@
+// std's readers and writers as sources and sinks: the edge to the outside, whose behaviour std
+// states.
+ghost use Rattle.std.specs.Prelude.{◌≡◌, None, if◌then◌else◌, is_err, length};
+ghost use Rattle.std.specs.Io.{ReadsAtMost, WritesAtMost};
+ghost use Rattle.std.specs.Io.KnownBytes.{ReadConsumes, WriteAppends};
+ghost use Rattle.flp_io.specs.Faults.{risen, HasCause};
+ghost use Rattle.flp_io.specs.Writes.{TakesSome, WriteSpares};
+
+use crate::{Failed, Sink, Source};
+use std::io::{Read, Write};
+
+/// A reader as a source. It tells the bytes that the reader tells, which a file or a terminal does
+/// not, and counts each error of the reader.
+#[derive(Debug, Drop)]
+pub struct ReaderSource<R> {
+    reader: R,
+    faults: u64,
+}
+
+impl<R: Read> ReaderSource<R> {
+    /// A source that reads from `reader`, with no fault so far.
+    pub fn new(reader: R) -> ReaderSource<R>
+        ensures left { ⟦<ReaderSource<R> as Source>⟧.left result ≡ R.remaining reader }
+        ensures faults { ⟦<ReaderSource<R> as Source>⟧.faults result ≡ 0 }
+    {
+        ReaderSource { reader, faults: 0 }
+    }
+}
+
+impl<R: Read> Source for ReaderSource<R> {
+    ghost left = { λ s. R.remaining s.reader };
+
+    ghost faults = { λ s. s.faults };
+
+    fn read(&mut self, buf: &mut [u8]) -> Result<usize, Failed>
+        ensures bound { ReadsAtMost result buf.new }
+        ensures bytes { ReadConsumes (R.remaining self.old.reader) (R.remaining self.new.reader)
+            result buf.new }
+        ensures cause { HasCause self.old.faults self.new.faults result }
+        ensures faults { self.new.faults
+            ≡ (if is_err result then risen self.old.faults else self.old.faults) }
+    {
+        match self.reader.read(buf) {
+            Ok(count) => Ok(count),
+            Err(_) => {
+                self.faults = self.faults.saturating_add(1);
+                Err(Failed)
+            }
+        }
+    }
+}
+
+/// A writer as a sink. It tells the bytes that the writer tells, which a file or a terminal does
+/// not, tells no room, and counts each error of the writer and each write that took nothing of a
+/// piece.
+#[derive(Debug, Drop)]
+pub struct WriterSink<W> {
+    writer: W,
+    faults: u64,
+}
+
+impl<W: Write> WriterSink<W> {
+    /// A sink that writes to `writer`, with no fault so far.
+    pub fn new(writer: W) -> WriterSink<W>
+        ensures taken { ⟦<WriterSink<W> as Sink>⟧.taken result ≡ W.contents writer }
+        ensures faults { ⟦<WriterSink<W> as Sink>⟧.faults result ≡ 0 }
+    {
+        WriterSink { writer, faults: 0 }
+    }
+}
+
+impl<W: Write> Sink for WriterSink<W> {
+    ghost taken = { λ s. W.contents s.writer };
+
+    ghost faults = { λ s. s.faults };
+
+    ghost spare = { λ _. None };
+
+    fn write(&mut self, piece: &[u8]) -> Result<usize, Failed>
+        ensures bound { WritesAtMost result piece.now }
+        ensures some { TakesSome result piece.now }
+        ensures bytes { WriteAppends (W.contents self.old.writer) (W.contents self.new.writer)
+            result piece.now }
+        ensures room { WriteSpares None None result (length piece.now) }
+        ensures cause { HasCause self.old.faults self.new.faults result }
+        ensures faults { self.new.faults
+            ≡ (if is_err result then risen self.old.faults else self.old.faults) }
+    {
+        match self.writer.write(piece) {
+            Ok(count) if 0 < count || piece.is_empty() => Ok(count),
+            _ => {
+                self.faults = self.faults.saturating_add(1);
+                Err(Failed)
+            }
+        }
+    }
+}
