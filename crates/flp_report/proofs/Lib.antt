@@ -1,0 +1,4 @@
+pub mod BatchLemmas
+pub mod KnownLemmas
+pub mod PlacesLemmas
+pub mod WordsLemmas

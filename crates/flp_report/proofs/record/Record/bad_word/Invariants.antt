@@ -1,0 +1,6 @@
+use Rattle.std.proofs.Common.{◌≡◌}
+use Rattle.flp_report.proofs.WordsLemmas.{bad_from}
+use Rattle.flp_report.proofs.record.Record.bad_word.Given as goal
+
+abbrev pub invariant-loop-word : goal.invariant-loop-word
+invariant-loop-word l = bad_from 0 l.count l.words ≡ bad_from l.word l.count l.words

@@ -1,0 +1,33 @@
+-- The parts of a record's bytes: the nonce, one part for each share, and then each proof's own words.
+use Rattle.std.specs.Prelude.{ℕ, ◌+◌, ◌*◌, List, take, drop}
+use Rattle.flp_report.specs.declared.shape.Shape.{Shape}
+use Rattle.flp_report.specs.declared.record.Record.{Record}
+use Rattle.flp_report.specs.Shape.{part_of}
+
+-- a record's bytes
+abbrev pub record_of : Record → List ℕ
+record_of r = r.bytes.now
+
+-- the shape that a record was made for
+abbrev pub shape_of : Record → Shape
+shape_of r = r.shape
+
+-- the nonce of a record
+abbrev pub nonce_in : List ℕ → List ℕ
+nonce_in bytes = take 16 bytes
+
+-- the bytes of one share's part
+abbrev pub share_in : Shape → List ℕ → ℕ → List ℕ
+share_in s bytes share = take (8 * part_of s) (drop (16 + 8 * (share * part_of s)) bytes)
+
+-- where the joint and query words of one proof begin
+abbrev pub own_start : Shape → ℕ → ℕ
+own_start s proof = 16 + 8 * (s.shares * part_of s + proof * (s.joint + s.query))
+
+-- the bytes of one proof's joint words
+abbrev pub joint_in : Shape → List ℕ → ℕ → List ℕ
+joint_in s bytes proof = take (8 * s.joint) (drop (own_start s proof) bytes)
+
+-- the bytes of one proof's query words
+abbrev pub query_in : Shape → List ℕ → ℕ → List ℕ
+query_in s bytes proof = take (8 * s.query) (drop (own_start s proof + 8 * s.joint) bytes)

@@ -1,0 +1,233 @@
+//! The reader of a batch, which borrows its source.
+ghost use Rattle.std.specs.Prelude.{◌≡◌, ◌+◌, ◌-◌, ◌*◌, ◌<◌, ◌≤◌, ◌≢◌, ◌^◌, ◌⊎◌, [], List, ℕ, length, vec_len, take, slice_index, None, Some, Err, IfOk, IfErr, OnOk, OnErr, IfSome};
+ghost use Rattle.std.specs.Io.KnownBytes.{Consumes, IsAtEnd};
+ghost use Rattle.flp_io.specs.Faults.{Rose};
+ghost use Rattle.flp_io.specs.Reads.{ConsumesSome};
+ghost use Rattle.flp_report.specs.Batch.{fault_of, IsHead, IsNumbers, IsText, text_fault_of};
+
+use crate::fault::{BatchFault, ReadFault};
+use crate::segment::Segment;
+use byteorder::{ByteOrder, LittleEndian};
+use flp_io::{Source, fill};
+use flp_list::Bytes;
+use std::alloc::Global;
+
+/// How a batch of Count reports begins: the letters, version 1, two shares, one proof, a text of
+/// ten bytes and no old claims. The number of reports follows.
+const COUNT_HEAD: [u8; 28] = *b"FLPBATCH\x01\0\0\0\x02\0\0\0\x01\0\0\0\x0a\0\0\0\0\0\0\0";
+
+/// The text of the circuit Count.
+const COUNT_TEXT: [u8; 10] = *b"use count;";
+
+/// The bytes in front of the records of a batch of Count reports.
+const HEAD_BYTES: u64 = 42;
+
+/// The bytes of one Count report.
+const RECORD_BYTES: u64 = 120;
+
+/// What stands in front of the records of a batch.
+#[derive(Debug, PartialEq, Eq, Drop)]
+pub struct Header {
+    pub shares: u32,
+    pub proofs: u32,
+    pub text: Bytes,
+    pub claims: u32,
+    pub reports: u32,
+}
+
+/// Fills the buffer, whose first byte has `before` bytes of the file in front of it, out of `need`.
+fn read_whole<S: Source>(source: &mut S, buf: &mut [u8], before: u64, need: u64) -> Result<(), ReadFault>
+    requires { before + length buf.old < 2 ^ 63 }
+    ensures bytes { OnOk result (Consumes (S.left source.old) (S.left source.new) buf.new) }
+    ensures moved { ConsumesSome (S.left source.old) (S.left source.new) }
+    ensures fault { OnErr result ((result ≡ Err ReadFault.Failed) ⊎ ((n : ℕ) × (result ≡ Err (ReadFault.Batch (BatchFault.Truncated (before + n) need)))
+        × (n < length buf.old) × IfSome (S.left source.old) (λ left. length left ≡ n))) }
+    ensures failed { result ≡ Err ReadFault.Failed → Rose (S.faults source.old) (S.faults source.new) }
+    ensures later { S.faults source.old ≤ S.faults source.new }
+{
+    match fill(source, buf) {
+        Ok(count) if count == buf.len() => Ok(()),
+        Ok(count) => Err(ReadFault::Batch(BatchFault::Truncated(before + count as u64, need))),
+        Err(_) => Err(ReadFault::Failed),
+    }
+}
+
+/// Fills the first `wanted` bytes of the room, as [`read_whole`] does.
+fn read_front<S: Source>(source: &mut S, room: &mut [u8], wanted: usize, before: u64, need: u64) -> Result<(), ReadFault>
+    requires wanted { wanted ≤ length room.old }
+    requires fits { before + wanted < 2 ^ 63 }
+    ensures bytes { OnOk result (Consumes (S.left source.old) (S.left source.new) (take wanted room.new)) }
+    ensures moved { ConsumesSome (S.left source.old) (S.left source.new) }
+    ensures fault { OnErr result ((result ≡ Err ReadFault.Failed) ⊎ ((n : ℕ) × (result ≡ Err (ReadFault.Batch (BatchFault.Truncated (before + n) need)))
+        × (n < wanted) × IfSome (S.left source.old) (λ left. length left ≡ n))) }
+    ensures failed { result ≡ Err ReadFault.Failed → Rose (S.faults source.old) (S.faults source.new) }
+    ensures later { S.faults source.old ≤ S.faults source.new }
+{
+    read_whole(source, &mut room[..wanted], before, need)
+}
+
+/// Reads the numbers of the head and answers the number of reports.
+fn read_numbers<S: Source>(source: &mut S) -> Result<u32, ReadFault>
+    ensures bytes { IfOk result (λ reports. (bytes : List ℕ) × IsNumbers bytes reports
+        × Consumes (S.left source.old) (S.left source.new) bytes) }
+    ensures fault { IfErr result (λ fault. fault ≢ ReadFault.Failed
+        → IfSome (S.left source.old) (λ bytes. fault_of bytes ≡ Some fault)) }
+    ensures no_memory { result ≢ Err ReadFault.Memory }
+    ensures moved { ConsumesSome (S.left source.old) (S.left source.new) }
+    ensures failed { result ≡ Err ReadFault.Failed → Rose (S.faults source.old) (S.faults source.new) }
+    ensures later { S.faults source.old ≤ S.faults source.new }
+{
+    let mut head = [0; 32];
+    read_whole(source, &mut head, 0, 32)?;
+    if !head.starts_with(&COUNT_HEAD) {
+        return Err(ReadFault::NotBuilt);
+    }
+    Ok(LittleEndian::read_u32(&head[28..]))
+}
+
+/// Reads the text, which must be that of the circuit Count.
+fn read_text<S: Source>(source: &mut S) -> Result<(), ReadFault>
+    ensures bytes { OnOk result ((bytes : List ℕ) × IsText bytes
+        × Consumes (S.left source.old) (S.left source.new) bytes) }
+    ensures fault { IfErr result (λ fault. fault ≢ ReadFault.Failed
+        → IfSome (S.left source.old) (λ bytes. text_fault_of bytes ≡ Some fault)) }
+    ensures no_memory { result ≢ Err ReadFault.Memory }
+    ensures moved { ConsumesSome (S.left source.old) (S.left source.new) }
+    ensures failed { result ≡ Err ReadFault.Failed → Rose (S.faults source.old) (S.faults source.new) }
+    ensures later { S.faults source.old ≤ S.faults source.new }
+{
+    let mut text = [0; 10];
+    read_whole(source, &mut text, 32, HEAD_BYTES)?;
+    if !text.starts_with(&COUNT_TEXT) {
+        return Err(ReadFault::NotBuilt);
+    }
+    Ok(())
+}
+
+/// Reads what stands in front of the records and answers the number of reports.
+fn read_head<S: Source>(source: &mut S) -> Result<u32, ReadFault>
+    ensures bytes { IfOk result (λ reports. (bytes : List ℕ) × IsHead bytes reports
+        × Consumes (S.left source.old) (S.left source.new) bytes) }
+    ensures fault { IfErr result (λ fault. fault ≢ ReadFault.Failed
+        → IfSome (S.left source.old) (λ bytes. fault_of bytes ≡ Some fault)) }
+    ensures no_memory { result ≢ Err ReadFault.Memory }
+    ensures moved { ConsumesSome (S.left source.old) (S.left source.new) }
+    ensures failed { result ≡ Err ReadFault.Failed → Rose (S.faults source.old) (S.faults source.new) }
+    ensures later { S.faults source.old ≤ S.faults source.new }
+{
+    let reports = read_numbers(source)?;
+    match read_text(source) {
+        Ok(()) => Ok(reports),
+        Err(fault) => Err(fault),
+    }
+}
+
+/// A reader of one batch. `head` comes first, then `segment` until no report is left, then `end`.
+#[derive(Drop)]
+pub struct BatchReader<'a, S> {
+    source: &'a mut S,
+    reports: u32,
+    left: u32,
+    ghost in_range: { left ≤ reports },
+}
+
+impl<'a, S: Source> BatchReader<'a, S> {
+    ghost use Rattle.flp_report.specs.Shape.{IsCountShape};
+    ghost use Rattle.flp_report.specs.Segment.{shape_in, room_of, used_in, held_in};
+    ghost use Rattle.flp_report.specs.Reader.{source_of, loan_of, SameLoan, reports_given, reports_left, place_of, size_of_file, count_header};
+
+    /// A reader that stands at the source's next byte.
+    pub fn new(source: &'a mut S) -> BatchReader<'a, S>
+        ensures same { loan_of result ≡ source.entry.ghost_name }
+        ensures source { source_of result ≡ source.old }
+    {
+        BatchReader {
+            source,
+            reports: 0,
+            left: 0,
+        }
+    }
+
+    /// Reads what stands in front of the records. It answers the first fault of the batch up to there.
+    pub fn head(&mut self, alloc: Global, party: Option<u32>) -> Result<Header, ReadFault>
+        requires { party ≡ None }
+        ensures same { SameLoan self.old self.new }
+        ensures bytes { IfOk result (λ header. (bytes : List ℕ) × IsHead bytes header.reports
+            × Consumes (S.left (source_of self.old)) (S.left (source_of self.new)) bytes) }
+        ensures header { IfOk result (λ header. header ≡ count_header header.reports) }
+        ensures given { IfOk result (λ header. reports_given self.new ≡ header.reports) }
+        ensures left { IfOk result (λ header. reports_left self.new ≡ header.reports) }
+        ensures fault { IfErr result (λ fault. fault ≢ ReadFault.Memory → fault ≢ ReadFault.Failed
+            → IfSome (S.left (source_of self.old)) (λ bytes. fault_of bytes ≡ Some fault)) }
+
+        // At every outcome.
+        ensures moved { ConsumesSome (S.left (source_of self.old)) (S.left (source_of self.new)) }
+        ensures failed { result ≡ Err ReadFault.Failed → Rose (S.faults (source_of self.old)) (S.faults (source_of self.new)) }
+        ensures later { S.faults (source_of self.old) ≤ S.faults (source_of self.new) }
+    {
+        let reports = read_head(self.source)?;
+        let text = Bytes::from_vec(COUNT_TEXT.to_vec(alloc)?);
+        self.reports = reports;
+        self.left = reports;
+        Ok(Header {
+            shares: 2,
+            proofs: 1,
+            text,
+            claims: 0,
+            reports,
+        })
+    }
+
+    /// Reads the next `count` records into the room.
+    pub fn segment(&mut self, count: u32, room: &mut Segment) -> Result<(), ReadFault>
+        requires left { count ≤ reports_left self.old }
+        requires shape { IsCountShape (shape_in room.old) }
+        requires room { count ≤ room_of room.old }
+        ensures same { SameLoan self.old self.new }
+        ensures records { OnOk result (Consumes (S.left (source_of self.old)) (S.left (source_of self.new)) (held_in room.new)) }
+        ensures used { OnOk result (used_in room.new ≡ count) }
+        ensures left { OnOk result (reports_left self.new + count ≡ reports_left self.old) }
+        ensures given { reports_given self.new ≡ reports_given self.old }
+        ensures shape { shape_in room.new ≡ shape_in room.old }
+        ensures room { room_of room.new ≡ room_of room.old }
+        ensures fault { OnErr result ((result ≡ Err ReadFault.Failed)
+            ⊎ ((n : ℕ) × (result ≡ Err (ReadFault.Batch (BatchFault.Truncated (place_of self.old + n) (size_of_file self.old))))
+            × (n < 120 * count) × IfSome (S.left (source_of self.old)) (λ left. length left ≡ n))) }
+
+        // At every outcome.
+        ensures moved { ConsumesSome (S.left (source_of self.old)) (S.left (source_of self.new)) }
+        ensures failed { result ≡ Err ReadFault.Failed → Rose (S.faults (source_of self.old)) (S.faults (source_of self.new)) }
+        ensures later { S.faults (source_of self.old) ≤ S.faults (source_of self.new) }
+    {
+        room.used = 0;
+        let place = HEAD_BYTES + RECORD_BYTES * u64::from(self.reports - self.left);
+        let size = HEAD_BYTES + RECORD_BYTES * u64::from(self.reports);
+        let wanted = RECORD_BYTES as usize * count as usize;
+        read_front(self.source, room.bytes.as_mut_slice(), wanted, place, size)?;
+        room.used = count;
+        self.left -= count;
+        Ok(())
+    }
+
+    /// Sees that the input ends here.
+    pub fn end(&mut self) -> Result<(), ReadFault>
+        requires { reports_left self.old ≡ 0 }
+        ensures same { SameLoan self.old self.new }
+        ensures ended { OnOk result (IsAtEnd (S.left (source_of self.new))) }
+        ensures none_read { OnOk result (Consumes (S.left (source_of self.old)) (S.left (source_of self.new)) []) }
+        ensures fault { OnErr result ((result ≡ Err ReadFault.Failed)
+            ⊎ ((result ≡ Err (ReadFault.Batch BatchFault.Trailing)) × IfSome (S.left (source_of self.old)) (λ left. left ≢ []))) }
+
+        // At every outcome.
+        ensures moved { ConsumesSome (S.left (source_of self.old)) (S.left (source_of self.new)) }
+        ensures failed { result ≡ Err ReadFault.Failed → Rose (S.faults (source_of self.old)) (S.faults (source_of self.new)) }
+        ensures later { S.faults (source_of self.old) ≤ S.faults (source_of self.new) }
+    {
+        let mut byte = [0; 1];
+        match fill(self.source, &mut byte) {
+            Ok(0) => Ok(()),
+            Ok(_) => Err(ReadFault::Batch(BatchFault::Trailing)),
+            Err(_) => Err(ReadFault::Failed),
+        }
+    }
+}

@@ -1,0 +1,35 @@
+//! Why a batch is not read to its end.
+ghost use Rattle.std.specs.Prelude.{◌≡◌};
+ghost use Rattle.flp_report.specs.declared.fault.ReadFault.TheVariants.{Memory as OutOfMemory};
+
+use std::alloc::{AllocError, AllocFailed};
+
+/// Why the bytes are no batch. The numbers are counts of bytes.
+#[derive(Clone, Copy, Debug, PartialEq, Eq)]
+pub enum BatchFault {
+    /// The input ended after the first number of bytes, where the second was needed.
+    Truncated(u64, u64),
+    /// A byte follows the last record.
+    Trailing,
+}
+
+/// Why a call of a reader gave nothing. After any of these the reader answers no further call.
+#[derive(Clone, Copy, Debug, PartialEq, Eq)]
+pub enum ReadFault {
+    /// Want of memory.
+    Memory,
+    /// The source failed in this call, and its count of faults rose.
+    Failed,
+    /// The head is not that of a batch of Count reports, the one kind that is built.
+    NotBuilt,
+    /// The bytes are no batch.
+    Batch(BatchFault),
+}
+
+impl From<AllocError> for ReadFault {
+    ghost from_gives = { λ _ fault. fault ≡ OutOfMemory };
+
+    fn from(_: AllocError) -> ReadFault {
+        ReadFault::Memory
+    }
+}

@@ -1,0 +1,32 @@
+//! The batch file: the reports that `flp` verifies, read piece by piece and lent without copying.
+//!
+//! A batch is a head of 32 bytes, the circuit text, and the records, each a nonce of 16 bytes and
+//! then words of 8 bytes, all numbers little-endian. `specs/Batch.antt` says of every list of bytes
+//! whether it is a batch, which is its first fault where it is none, and which records stand whole
+//! in front of the fault.
+//!
+//! | To | Use |
+//! |---|---|
+//! | read a batch from a [`flp_io::Source`] | [`BatchReader`]: `head`, then `segment` over all reports, then `end` |
+//! | hold the records that were read | [`Segment`], made once and used again |
+//! | look at one record | [`Record`]: its nonce, the parts of its shares, its words |
+//! | bring the bytes of words into the field | [`load`] |
+//!
+//! Today a batch is one of Count reports: two shares, one proof, the text `use count;` and no old
+//! claims. Every other head is [`ReadFault::NotBuilt`].
+#![tactic(auto)]
+
+mod batch;
+mod fault;
+mod record;
+mod segment;
+mod shape;
+
+pub use batch::{BatchReader, Header};
+pub use fault::{BatchFault, ReadFault};
+pub use record::{Record, load};
+pub use segment::Segment;
+pub use shape::{RECORD_LIMIT, Shape};
+
+/// Want of memory, as std's allocators answer it.
+pub use std::alloc::AllocError as Memory;
