@@ -9,7 +9,8 @@ use Rattle.flp_io.specs.Writes.{TakesPrefix, HasRoom, Spends}
 
 -- what was taken is the front of the text
 pub TakesPrefix-front : (a b : Option (List ℕ)) (front rest text : List ℕ) → Appends a b front → text ≡ front ++ rest → TakesPrefix a b text
-TakesPrefix-front a b front rest text p e = (length front, subst (Appends a b) (sym (ap (take (length front)) e ∙ take-append_seam front rest)) p)
+TakesPrefix-front a b front rest text p e =
+    record { count = length front; grown = subst (Appends a b) (sym (ap (take (length front)) e ∙ take-append_seam front rest)) p }
 
 -- nothing was taken
 pub TakesPrefix-refl : (a : Option (List ℕ)) (text : List ℕ) → TakesPrefix a a text
@@ -21,17 +22,19 @@ TakesPrefix-whole a b text p = TakesPrefix-front a b text [] text p (sym (append
 
 -- a prefix of a text is one of a longer text
 pub TakesPrefix-more : (a b : Option (List ℕ)) (text more : List ℕ) → TakesPrefix a b text → TakesPrefix a b (text ++ more)
-TakesPrefix-more a b text more (n, p) =
+TakesPrefix-more a b text more p =
+    let n = p.count in
     let split : text ++ more ≡ take n text ++ (drop n text ++ more) =
     ap (λ l. l ++ more) (sym (take-append-drop n text)) ∙ append_assoc (take n text) (drop n text) more in
-    TakesPrefix-front a b (take n text) (drop n text ++ more) (text ++ more) p split
+    TakesPrefix-front a b (take n text) (drop n text ++ more) (text ++ more) p.grown split
 
 -- after all of one text, a prefix of the next
 pub TakesPrefix-after : (a b c : Option (List ℕ)) (text more : List ℕ) → Appends a b text → TakesPrefix b c more → TakesPrefix a c (text ++ more)
-TakesPrefix-after a b c text more p (n, q) =
+TakesPrefix-after a b c text more p q =
+    let n = q.count in
     let split : text ++ more ≡ (text ++ take n more) ++ drop n more =
     ap (λ l. text ++ l) (sym (take-append-drop n more)) ∙ sym (append_assoc text (take n more) (drop n more)) in
-    TakesPrefix-front a c (text ++ take n more) (drop n more) (text ++ more) (Appends-trans a b c text (take n more) p q) split
+    TakesPrefix-front a c (text ++ take n more) (drop n more) (text ++ more) (Appends-trans a b c text (take n more) p q.grown) split
 
 -- ---- room
 
@@ -59,3 +62,6 @@ Spends-trans (Some room) b c m n p q =
 pub Spends-refl : (a : Option ℕ) → Spends a a 0
 Spends-refl None = tt
 Spends-refl (Some room) = let same : room ≡ room - 0 = omega arith in ap Some same
+
+-- what a caller of `put` names in `using(..)`, to join what several writes took
+pub ruleset writes_join = (TakesPrefix-refl, TakesPrefix-whole, TakesPrefix-more, TakesPrefix-after)

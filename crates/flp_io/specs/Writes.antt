@@ -7,8 +7,9 @@ abbrev pub TakesSome : {E : Type 0} → Result ℕ E → List ℕ → Type 0
 TakesSome result piece = IfOk result (λ n. 0 < length piece → 0 < n)
 
 -- known bytes grow by a prefix of the text, which may be empty or all of it
-abbrev pub TakesPrefix : Option (List ℕ) → Option (List ℕ) → List ℕ → Type 0
-TakesPrefix old new text = (n : ℕ) × Appends old new (take n text)
+pub record TakesPrefix (old new : Option (List ℕ)) (text : List ℕ) : Type 0 where
+  pub count : ℕ
+  pub grown : Appends old new (take count text)
 
 -- a room is told, and it is at least this many bytes
 abbrev pub HasRoom : Option ℕ → ℕ → Type 0

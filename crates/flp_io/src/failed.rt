@@ -1,5 +1,14 @@
 // The one error of sources and sinks.
+use std::{error, fmt};
 
 /// A read or a write failed. The count of faults of the source or sink rose in that call.
 #[derive(Debug, Clone, Copy, PartialEq, Eq)]
 pub struct Failed;
+
+impl fmt::Display for Failed {
+    fn fmt<W: fmt::Write>(&self, f: &mut fmt::Formatter<W>) -> fmt::Result {
+        f.write_str("reading or writing failed")
+    }
+}
+
+impl error::Error for Failed {}

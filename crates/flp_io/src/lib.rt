@@ -25,6 +25,8 @@ mod null;
 mod sink;
 mod source;
 mod sure;
+#[cfg(test)]
+mod tests;
 
 pub use adapters::{ReaderSource, WriterSink};
 pub use failed::Failed;

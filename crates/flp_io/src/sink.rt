@@ -10,8 +10,8 @@ use crate::Failed;
 /// Takes bytes, one write after another.
 ///
 /// Contracts know three things of a sink: `taken`, the bytes that it took so far, where it tells
-/// them; `faults`, a count that never falls and stops at `u64::MAX`; and `spare`, a number of
-/// bytes that it takes without a fault, where it tells one.
+/// them; `faults`, a count that never falls, and is taken as risen where it stands at `u64::MAX`;
+/// and `spare`, a number of bytes that it takes without a fault, where it tells one.
 pub trait Sink {
     // The bytes taken so far, where they are known.
     ghost taken: { Self → Option (List ℕ) };

@@ -10,7 +10,7 @@ use crate::Failed;
 /// Gives bytes, one read after another.
 ///
 /// Contracts know two things of a source: `left`, the bytes still to come, where it tells them,
-/// and `faults`, a count that never falls and stops at `u64::MAX`.
+/// and `faults`, a count that never falls. A count that stands at `u64::MAX` is taken as risen.
 pub trait Source {
     // The bytes still to come, where they are known.
     ghost left: { Self → Option (List ℕ) };
