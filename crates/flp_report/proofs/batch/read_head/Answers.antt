@@ -16,7 +16,7 @@ pub returns-in-Err-clause-moved : goal.returns-in-Err-clause-moved
 returns-in-Err-clause-moved g c =
     let numbers = c.in_ok-reports.ensures.bytes in
     let text = c.in-Err.ensures.moved in
-    (numbers.0 ++ text.0, Consumes-trans _ _ _ numbers.0 text.0 numbers.2 text.1)
+    record { bytes = numbers.0 ++ text.bytes; gone = Consumes-trans _ _ _ numbers.0 text.bytes numbers.2 text.gone }
 
 pub returns-in-Ok-clause-bytes : goal.returns-in-Ok-clause-bytes
 returns-in-Ok-clause-bytes g c =
@@ -28,4 +28,4 @@ pub returns-in-Ok-clause-moved : goal.returns-in-Ok-clause-moved
 returns-in-Ok-clause-moved g c =
     let numbers = c.in_ok-reports.ensures.bytes in
     let text = c.in-Ok.ensures.moved in
-    (numbers.0 ++ text.0, Consumes-trans _ _ _ numbers.0 text.0 numbers.2 text.1)
+    record { bytes = numbers.0 ++ text.bytes; gone = Consumes-trans _ _ _ numbers.0 text.bytes numbers.2 text.gone }
