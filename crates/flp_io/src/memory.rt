@@ -147,7 +147,7 @@ impl MemorySink {
         }
     }
 
-    /// Makes the room at least `bytes`. A room that is as large already takes no memory.
+    /// Makes the room at least `bytes`. It is never refused where the room is as large already.
     pub fn reserve(&mut self, bytes: usize) -> Result<(), Memory>
         ensures ok { OnOk result (self.new ≡ record self.old { room = max self.old.room bytes }) }
         ensures err { OnErr result (self.new ≡ self.old) }
