@@ -21,4 +21,4 @@ pub ConsumesSome-after : (a b c : Option (List ℕ)) (bytes : List ℕ) → Cons
 ConsumesSome-after a b c bytes p q = record { bytes = bytes ++ q.bytes; gone = Consumes-trans a b c bytes q.bytes p q.gone }
 
 -- what a caller of `fill` names in `using(..)`, to join what several reads consumed
-pub ruleset reads_join = (ConsumesSome-refl, ConsumesSome-of, ConsumesSome-after)
+pub ruleset reads_join = (ConsumesSome-refl, ConsumesSome-of, ConsumesSome-after, Consumes-trans)

@@ -3,3 +3,4 @@ pub mod Reads
 pub mod Writes
 pub mod SourceState
 pub mod SinkState
+pub mod Adapters

@@ -3,6 +3,7 @@
 ghost use Rattle.std.specs.Prelude.{◌≡◌, None, if◌then◌else◌, is_err, length};
 ghost use Rattle.std.specs.Io.{ReadsAtMost, WritesAtMost};
 ghost use Rattle.std.specs.Io.KnownBytes.{ReadConsumes, WriteAppends};
+ghost use Rattle.flp_io.specs.Adapters.{reader_of, read_faults, writer_of, write_faults};
 ghost use Rattle.flp_io.specs.Faults.{risen, HasCause};
 ghost use Rattle.flp_io.specs.Writes.{TakesSome, WriteSpares};
 
@@ -20,25 +21,25 @@ pub struct ReaderSource<R> {
 impl<R: Read> ReaderSource<R> {
     /// A source that reads from `reader`, with no fault so far.
     pub fn new(reader: R) -> ReaderSource<R>
-        ensures left { ⟦<ReaderSource<R> as Source>⟧.left result ≡ R.remaining reader }
-        ensures faults { ⟦<ReaderSource<R> as Source>⟧.faults result ≡ 0 }
+        ensures reader { reader_of result ≡ reader }
+        ensures faults { read_faults result ≡ 0 }
     {
         ReaderSource { reader, faults: 0 }
     }
 }
 
 impl<R: Read> Source for ReaderSource<R> {
-    ghost left = { λ s. R.remaining s.reader };
+    ghost left = { λ s. R.remaining (reader_of s) };
 
-    ghost faults = { λ s. s.faults };
+    ghost faults = { read_faults };
 
     fn read(&mut self, buf: &mut [u8]) -> Result<usize, Failed>
         ensures bound { ReadsAtMost result buf.new }
-        ensures bytes { ReadConsumes (R.remaining self.old.reader) (R.remaining self.new.reader)
-            result buf.new }
-        ensures cause { HasCause self.old.faults self.new.faults result }
-        ensures faults { self.new.faults
-            ≡ (if is_err result then risen self.old.faults else self.old.faults) }
+        ensures bytes { ReadConsumes (R.remaining (reader_of self.old))
+            (R.remaining (reader_of self.new)) result buf.new }
+        ensures cause { HasCause (read_faults self.old) (read_faults self.new) result }
+        ensures exact { read_faults self.new
+            ≡ (if is_err result then risen (read_faults self.old) else read_faults self.old) }
     {
         match self.reader.read(buf) {
             Ok(count) => Ok(count),
@@ -62,29 +63,29 @@ pub struct WriterSink<W> {
 impl<W: Write> WriterSink<W> {
     /// A sink that writes to `writer`, with no fault so far.
     pub fn new(writer: W) -> WriterSink<W>
-        ensures taken { ⟦<WriterSink<W> as Sink>⟧.taken result ≡ W.contents writer }
-        ensures faults { ⟦<WriterSink<W> as Sink>⟧.faults result ≡ 0 }
+        ensures writer { writer_of result ≡ writer }
+        ensures faults { write_faults result ≡ 0 }
     {
         WriterSink { writer, faults: 0 }
     }
 }
 
 impl<W: Write> Sink for WriterSink<W> {
-    ghost taken = { λ s. W.contents s.writer };
+    ghost taken = { λ s. W.contents (writer_of s) };
 
-    ghost faults = { λ s. s.faults };
+    ghost faults = { write_faults };
 
     ghost spare = { λ _. None };
 
     fn write(&mut self, piece: &[u8]) -> Result<usize, Failed>
         ensures bound { WritesAtMost result piece.now }
         ensures some { TakesSome result piece.now }
-        ensures bytes { WriteAppends (W.contents self.old.writer) (W.contents self.new.writer)
-            result piece.now }
+        ensures bytes { WriteAppends (W.contents (writer_of self.old))
+            (W.contents (writer_of self.new)) result piece.now }
         ensures room { WriteSpares None None result (length piece.now) }
-        ensures cause { HasCause self.old.faults self.new.faults result }
-        ensures faults { self.new.faults
-            ≡ (if is_err result then risen self.old.faults else self.old.faults) }
+        ensures cause { HasCause (write_faults self.old) (write_faults self.new) result }
+        ensures exact { write_faults self.new
+            ≡ (if is_err result then risen (write_faults self.old) else write_faults self.old) }
     {
         match self.writer.write(piece) {
             Ok(count) if 0 < count || piece.is_empty() => Ok(count),

@@ -1,10 +1,9 @@
 // A source and a sink over memory, which fail at chosen calls: fakes for tests of what reads and
 // writes.
-ghost use Rattle.std.specs.Prelude.{◌≡◌, ◌+◌, ◌==◌, ◌||◌, ◌≤◌, ℕ, [], Some, if◌then◌else◌, is_err, length, max, min, nat_lt, IfOk, IsOk, MatchResult, OnErr, OnOk};
-ghost use Rattle.std.specs.List.{list_any};
+ghost use Rattle.std.specs.Prelude.{◌≡◌, ◌+◌, ◌||◌, ◌≤◌, ℕ, [], Some, if◌then◌else◌, is_err, length, max, min, nat_lt, IfOk, IsOk, MatchResult, OnErr, OnOk};
 ghost use Rattle.std.specs.Io.{ReadsAtMost, WritesAtMost};
 ghost use Rattle.std.specs.Io.KnownBytes.{ReadConsumes, WriteAppends};
-ghost use Rattle.flp_io.specs.Faults.{risen, HasCause};
+ghost use Rattle.flp_io.specs.Faults.{risen, is_chosen, HasCause};
 ghost use Rattle.flp_io.specs.SinkState.{spare_of};
 ghost use Rattle.flp_io.specs.Writes.{TakesSome, WriteSpares};
 
@@ -77,7 +76,7 @@ impl Source for MemorySource {
         // one was chosen.
         ensures count { IfOk result
             (λ n. n ≡ min (min (length self.old.left) self.old.step) (length buf.new)) }
-        ensures exact { is_err result ≡ list_any (λ k. k == self.old.calls) self.old.fails }
+        ensures exact { is_err result ≡ is_chosen self.old.fails self.old.calls }
 
         ensures calls { self.new.calls ≡ risen self.old.calls }
         ensures faults { self.new.faults
@@ -148,7 +147,7 @@ impl MemorySink {
         }
     }
 
-    /// Makes the room at least `bytes`. A room that is as large already takes no memory.
+    /// Makes the room at least `bytes`. It is never refused where the room is as large already.
     pub fn reserve(&mut self, bytes: usize) -> Result<(), Memory>
         ensures ok { OnOk result (self.new ≡ record self.old { room = max self.old.room bytes }) }
         ensures err { OnErr result (self.new ≡ self.old) }
@@ -194,7 +193,7 @@ impl Sink for MemorySink {
         // As many bytes as the step allows; a fault exactly where one was chosen or the piece is
         // longer than the room.
         ensures count { IfOk result (λ n. n ≡ min (length piece.now) self.old.step) }
-        ensures exact { is_err result ≡ (list_any (λ k. k == self.old.calls) self.old.fails
+        ensures exact { is_err result ≡ (is_chosen self.old.fails self.old.calls
             || nat_lt self.old.room (length piece.now)) }
 
         ensures left_room { MatchResult result
