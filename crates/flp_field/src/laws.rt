@@ -4,11 +4,14 @@
 //!
 //! That each word but 0 has an inverse rests on the order of 7 alone: nothing here assumes that the
 //! modulus is prime.
+ghost use Rattle.flp_field.specs.Word.{AreWords};
 ghost use Rattle.flp_field.specs.Laws.{SumAssociates, SumCommutes, SumHasZero, SumHasNegation, DifferenceNegates};
 ghost use Rattle.flp_field.specs.Laws.{ProductAssociates, ProductCommutes, ProductHasOne, ProductDistributes};
 ghost use Rattle.flp_field.specs.Laws.{NoZeroDivisors, HasInverses, InversesAreUnique};
 ghost use Rattle.flp_field.specs.Order.{SevenHasOrder, SevenGenerates, FullPowerIsOne};
 ghost use Rattle.flp_field.specs.Domain.{RootsHaveOrder, DomainIsRoots, PowersDiffer, PowersSumToZero, OnesSumToCount};
+
+use crate::word::Fe;
 
 /// Sums are associative and commutative, 0 is neutral, and each word has a negation.
 pub fn sums()
@@ -69,3 +72,12 @@ pub fn sums_of_powers()
     ensures zero { PowersSumToZero }
     ensures count { OnesSumToCount }
 {}
+
+/// Each element of a slice of words is a word. A proof learns it from here, and a build drops the loop.
+pub fn words(values: &[Fe])
+    ensures { AreWords values.now }
+{
+    for x in values {
+        let _word = x.value();
+    }
+}
