@@ -7,7 +7,7 @@ use Rattle.flp_field.proofs.Congruence.{Same, same_mod, same_mul, same_pow}
 
 -- a power of a power
 pub pow-pow : (a j k : ℕ) → (a ^ j) ^ k ≡ a ^ (j * k)
-pow-pow a j zero = rw (mul-zero, pow-zero, pow-zero)
+pow-pow a j zero = pow-zero (a ^ j) ∙ sym (ap (λ (x : ℕ). a ^ x) (mul-zero j) ∙ pow-zero a)
 pow-pow a j (suc k) = rw (pow-suc, pow-pow a j k, mul-suc, pow-add)
 
 pub one-pow : (k : ℕ) → 1 ^ k ≡ 1

@@ -5,7 +5,7 @@ use Rattle.flp_field.specs.Word.{modulus, IsWord, word_power}
 use Rattle.flp_field.specs.Order.{HasOrder}
 
 -- The root of unity of this size, a power of two up to 2^32: the power of 7^4294967295, which has order 2^32,
--- with the exponent 2^32 / size
+-- with the exponent 2^32 / size. A proof opens it at a variable only: with a numeral the power of 7 would be computed
 unfoldable pub alpha : ℕ → ℕ
 alpha size = word_power 7 (4294967295 * (2 ^ 32 / size))
 

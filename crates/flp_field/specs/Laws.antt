@@ -1,6 +1,6 @@
--- The laws of a field, each on numbers that are words. From sums to products; the last two are what makes it a field.
-use Rattle.std.specs.Prelude.{ℕ, ◌≡◌, ◌<◌, ◌⊎◌}
-use Rattle.flp_field.specs.Word.{IsWord, word_sum, word_difference, word_negation, word_product}
+-- The laws of a field, each on numbers that are words. From sums to products and inverses, and how a product is reduced.
+use Rattle.std.specs.Prelude.{ℕ, ◌≡◌, ◌+◌, ◌-◌, ◌*◌, ◌%◌, ◌^◌, ◌<◌, ◌⊎◌}
+use Rattle.flp_field.specs.Word.{modulus, IsWord, word_sum, word_difference, word_negation, word_product}
 
 abbrev pub SumAssociates : Type 0
 SumAssociates = (a b c : ℕ) → word_sum (word_sum a b) c ≡ word_sum a (word_sum b c)
@@ -40,3 +40,9 @@ HasInverses = (a : ℕ) → 0 < a → IsWord a → (b : ℕ) × IsWord b × (wor
 
 abbrev pub InversesAreUnique : Type 0
 InversesAreUnique = (a b c : ℕ) → IsWord b → IsWord c → word_product a b ≡ 1 → word_product a c ≡ 1 → b ≡ c
+
+-- 2^64 is 2^32 - 1 and 2^96 is -1, which brings a product of two words below the modulus with no division
+abbrev pub FoldsProduct : Type 0
+FoldsProduct =
+    (lo mid hi : ℕ) → lo < 2 ^ 64 → mid < 2 ^ 32 → hi < 2 ^ 32
+    → (lo + 2 ^ 64 * mid + 2 ^ 96 * hi) % modulus ≡ (lo + (2 ^ 32 - 1) * mid + (modulus - hi)) % modulus

@@ -7,7 +7,7 @@
 ghost use Rattle.flp_field.specs.Word.{AreWords};
 ghost use Rattle.flp_field.specs.Laws.{SumAssociates, SumCommutes, SumHasZero, SumHasNegation, DifferenceNegates};
 ghost use Rattle.flp_field.specs.Laws.{ProductAssociates, ProductCommutes, ProductHasOne, ProductDistributes};
-ghost use Rattle.flp_field.specs.Laws.{NoZeroDivisors, HasInverses, InversesAreUnique};
+ghost use Rattle.flp_field.specs.Laws.{NoZeroDivisors, HasInverses, InversesAreUnique, FoldsProduct};
 ghost use Rattle.flp_field.specs.Order.{SevenHasOrder, SevenGenerates, FullPowerIsOne};
 ghost use Rattle.flp_field.specs.Domain.{RootsHaveOrder, DomainIsRoots, PowersDiffer, PowersSumToZero, OnesSumToCount};
 
@@ -39,6 +39,11 @@ pub fn no_zero_divisors()
 pub fn inverses()
     ensures exist { HasInverses }
     ensures unique { InversesAreUnique }
+{}
+
+/// 2^64 is 2^32 - 1 and 2^96 is -1, so that a product of two words is reduced by shifts.
+pub fn fold_product()
+    ensures { FoldsProduct }
 {}
 
 /// 7 has order p - 1: no smaller positive power of it is 1.

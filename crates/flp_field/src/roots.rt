@@ -14,6 +14,7 @@ impl Fe {
         requires { 0 < self }
         ensures product { word_product result self ≡ 1 }
     {
+        // The proof reads from here that the word is below the modulus.
         let _word = self.value();
         let ones_2 = self.shifted(1, self);
         let ones_3 = ones_2.shifted(1, self);

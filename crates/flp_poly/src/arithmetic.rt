@@ -33,7 +33,7 @@ pub fn mul(a: &[Fe], b: &[Fe], out: &mut [Fe])
 fn coefficient(poly: &[Fe], k: usize) -> Fe
     ensures { result ≡ slice_index poly.now k }
 {
-    if k < poly.len() { poly[k] } else { Fe::ZERO }
+    poly.get(k).copied().unwrap_or(Fe::ZERO)
 }
 
 /// The coefficient with this index of the product: the sum of the products of two coefficients whose

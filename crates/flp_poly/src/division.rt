@@ -13,6 +13,7 @@ pub fn divide_root(poly: &[Fe], root: Fe, out: &mut [Fe]) -> Fe
     ensures divided { IsDivided poly.now root out.new result }
     ensures remainder { result ≡ value_at poly.now root }
 {
+    // What is divided is made of words: the proof reads it from here, and a build drops both lines.
     laws::words(poly);
     let _word = root.value();
     let mut left = out.len();
