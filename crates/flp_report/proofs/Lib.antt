@@ -1,4 +1,6 @@
 pub mod BatchLemmas
 pub mod KnownLemmas
 pub mod PlacesLemmas
+pub mod RecordsLemmas
+pub mod SegmentLemmas
 pub mod WordsLemmas

@@ -1,0 +1,9 @@
+pub mod Answers
+pub mod Text
+pub mod Reply
+pub mod Engine
+pub mod Progress
+pub mod Verdicts
+pub mod Count
+pub mod Policy
+pub mod Fault
