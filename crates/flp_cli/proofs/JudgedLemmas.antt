@@ -20,8 +20,8 @@ judged_from-append earlier [] report = ap (λ (e : List (List ℕ)). judged_afte
 judged_from-append earlier (first ∷ reports) report =
     let joined : (earlier ++ first ∷ []) ++ reports ≡ earlier ++ first ∷ reports = append_assoc earlier (first ∷ []) reports in
     ap (λ (js : List Judged). judged_after earlier first ∷ js)
-        (judged_from-append (earlier ++ first ∷ []) reports report
-        ∙ ap (λ (e : List (List ℕ)). judged_from (earlier ++ first ∷ []) reports ++ judged_after e report ∷ []) joined)
+    (judged_from-append (earlier ++ first ∷ []) reports report
+    ∙ ap (λ (e : List (List ℕ)). judged_from (earlier ++ first ∷ []) reports ++ judged_after e report ∷ []) joined)
 
 pub judged_more : (reports : List (List ℕ)) (report : List ℕ) → judged (reports ++ report ∷ []) ≡ judged reports ++ judged_after reports report ∷ []
 judged_more reports report = judged_from-append [] reports report

@@ -30,15 +30,15 @@ IsWord-from : (i n k : ℕ) (bytes : List ℕ) → position_from (λ w. nat_le m
 IsWord-from i zero k bytes none below = absurd (omega arith)
 IsWord-from i (suc n) zero bytes none below =
     ⊎_elim
-        (λ (bad : nat_le modulus (little_number 8 bytes) ≡ true). let found : Some i ≡ None = sym (rw bad refl) ∙ none in cc)
-        (λ (good : nat_le modulus (little_number 8 bytes) ≡ false). leb-false modulus (little_number 8 bytes) good)
-        (cases_Bool (nat_le modulus (little_number 8 bytes)))
+    (λ (bad : nat_le modulus (little_number 8 bytes) ≡ true). let found : Some i ≡ None = sym (rw bad refl) ∙ none in cc)
+    (λ (good : nat_le modulus (little_number 8 bytes) ≡ false). leb-false modulus (little_number 8 bytes) good)
+    (cases_Bool (nat_le modulus (little_number 8 bytes)))
 IsWord-from i (suc n) (suc k) bytes none below =
     let less : k < n = omega arith in
     ⊎_elim
-        (λ (bad : nat_le modulus (little_number 8 bytes) ≡ true). let found : Some i ≡ None = sym (rw bad refl) ∙ none in absurd cc)
-        (λ (good : nat_le modulus (little_number 8 bytes) ≡ false). IsWord-from (i + 1) n k (drop 8 bytes) (rw good at none) less)
-        (cases_Bool (nat_le modulus (little_number 8 bytes)))
+    (λ (bad : nat_le modulus (little_number 8 bytes) ≡ true). let found : Some i ≡ None = sym (rw bad refl) ∙ none in absurd cc)
+    (λ (good : nat_le modulus (little_number 8 bytes) ≡ false). IsWord-from (i + 1) n k (drop 8 bytes) (rw good at none) less)
+    (cases_Bool (nat_le modulus (little_number 8 bytes)))
 
 -- each word of a report with no bad word is one of the field
 pub IsWord-word_of : (report : List ℕ) (k : ℕ) → bad_word_of report ≡ None → k < 13 → IsWord (word_of report k)
@@ -60,9 +60,9 @@ pub IsWord-part : (n start place : ℕ) (report : List ℕ) → start ≡ 16 + 8
 IsWord-part n start place report at inside none =
     let part = words n (take (8 * n) (drop start report)) in
     All-from_get_or IsWord part 0 (λ k below.
-        let less : k < n = omega (arith, length-words n (take (8 * n) (drop start report))) in
-        let in_report : place + k < 13 = omega arith in
-        subst IsWord (sym (get_or-part n start place k report at less)) (IsWord-word_of report (place + k) none in_report))
+    let less : k < n = omega (arith, length-words n (take (8 * n) (drop start report))) in
+    let in_report : place + k < 13 = omega arith in
+    subst IsWord (sym (get_or-part n start place k report at less)) (IsWord-word_of report (place + k) none in_report))
 
 -- a share's part has six words
 length-part : (s : Shape) → IsCountShape s → part_length s ≡ 6
@@ -84,7 +84,7 @@ pub words-part : (report : List ℕ) (share : ℕ) → words 6 (take (8 * 6) (dr
 words-part report share =
     let bytes = take (8 * 6) (drop (16 + 8 * (6 * share)) report) in
     fill_by_all (λ k. word_of report (6 * share + k)) (words 6 bytes) 6 0 (length-words 6 bytes)
-        (λ k below. get_or-part 6 (16 + 8 * (6 * share)) (6 * share) k report refl below)
+    (λ k below. get_or-part 6 (16 + 8 * (6 * share)) (6 * share) k report refl below)
 
 -- a report has thirteen words
 pub words_of-count : (s : Shape) → IsCountShape s → words_of s ≡ 13

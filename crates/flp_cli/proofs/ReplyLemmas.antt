@@ -30,8 +30,8 @@ judged_from-joined earlier [] more = ap (λ (e : List (List ℕ)). judged_from e
 judged_from-joined earlier (first ∷ reports) more =
     let joined : (earlier ++ first ∷ []) ++ reports ≡ earlier ++ first ∷ reports = append_assoc earlier (first ∷ []) reports in
     ap (λ (js : List Judged). judged_after earlier first ∷ js)
-        (judged_from-joined (earlier ++ first ∷ []) reports more
-        ∙ ap (λ (e : List (List ℕ)). judged_from (earlier ++ first ∷ []) reports ++ judged_from e more) joined)
+    (judged_from-joined (earlier ++ first ∷ []) reports more
+    ∙ ap (λ (e : List (List ℕ)). judged_from (earlier ++ first ∷ []) reports ++ judged_from e more) joined)
 
 -- so do their lines
 lines-joined : (reports more : List (List ℕ)) → lines_of (judged (reports ++ more)) ≡ lines_of (judged reports) ++ lines_of (judged_from reports more)

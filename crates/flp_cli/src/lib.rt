@@ -14,8 +14,8 @@
 mod answers;
 mod claim;
 mod fault;
-mod progress;
 mod program;
+mod progress;
 mod text;
 mod unshare;
 mod verdict;

@@ -17,7 +17,12 @@ use std::alloc::Global;
 use std::thread::Threads;
 
 /// Does the one job, and says on `errors` why where it fails.
-fn do_verify<S: Source, K: Sink, E: Sink>(alloc: Global, input: &mut S, output: &mut K, errors: &mut E) -> Result<(), Fault>
+fn do_verify<S: Source, K: Sink, E: Sink>(
+    alloc: Global,
+    input: &mut S,
+    output: &mut K,
+    errors: &mut E,
+) -> Result<(), Fault>
     ensures done { OnOk result (WritesText (S.left input.old) (S.left input.new) (K.taken output.old) (K.taken output.new)) }
     ensures stopped { OnErr result (StopsEarly (S.left input.old) (S.left input.new) (K.taken output.old) (K.taken output.new)
         ⊎ ((result ≡ Err Fault.Write) × StopsInText (S.left input.old) (S.left input.new) (K.taken output.old) (K.taken output.new))) }
@@ -57,7 +62,16 @@ fn do_verify<S: Source, K: Sink, E: Sink>(alloc: Global, input: &mut S, output: 
 /// After 3, 4, 5 and 6 the output has taken a prefix of the lines of the reports that were read
 /// whole, or, where its own fault came later, of the text. The policies are dropped untold, and the
 /// gate is not entered.
-pub fn run<R: Threads + Sync, S: Source, K: Sink, E: Sink, G: Gate>(_rt: &R, alloc: Global, words: &[&str], input: &mut S, output: &mut K, errors: &mut E, _gate: &G, policies: Vec<Box<dyn Policy>>) -> u8
+pub fn run<R: Threads + Sync, S: Source, K: Sink, E: Sink, G: Gate>(
+    _rt: &R,
+    alloc: Global,
+    words: &[&str],
+    input: &mut S,
+    output: &mut K,
+    errors: &mut E,
+    _gate: &G,
+    policies: Vec<Box<dyn Policy>>,
+) -> u8
     requires { vec_len policies < 4294967295 }
 
     // The headline: what is written, and that all was read.
@@ -67,7 +81,7 @@ pub fn run<R: Threads + Sync, S: Source, K: Sink, E: Sink, G: Gate>(_rt: &R, all
     // What was written where the run ended earlier.
     ensures stopped { result ≢ 0 → result ≢ 2 → StopsEarly (S.left input.old) (S.left input.new) (K.taken output.old) (K.taken output.new)
         ⊎ ((result ≡ 5) × StopsLate (S.left input.old) (S.left input.new) (K.taken output.old) (K.taken output.new)
-            (λ more. map (λ p. would p more) policies.items)) }
+        (λ more. map (λ p. would p more) policies.items)) }
 
     // The cause of each status.
     ensures known { IsTrue (is_status result) }
@@ -90,7 +104,10 @@ pub fn run<R: Threads + Sync, S: Source, K: Sink, E: Sink, G: Gate>(_rt: &R, all
 {
     let _policies = policies;
     if !is_job(words) {
-        let _said = put(errors, b"flp: usage: flp verify, prove, lengths, prep, explain or trial\n");
+        let _said = put(
+            errors,
+            b"flp: usage: flp verify, prove, lengths, prep, explain or trial\n",
+        );
         return 2;
     }
     match do_verify(alloc, input, output, errors) {

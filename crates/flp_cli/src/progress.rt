@@ -32,11 +32,7 @@ struct Judgement {
 fn if_accepted(verdict: Verdict, x: Fe) -> Fe
     ensures { result ≡ (if is_accepted verdict then x else 0) }
 {
-    if verdict.is_accepted() {
-        x
-    } else {
-        Fe::ZERO
-    }
+    if verdict.is_accepted() { x } else { Fe::ZERO }
 }
 
 /// What a report adds to the count.

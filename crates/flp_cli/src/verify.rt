@@ -22,7 +22,11 @@ use flp_report::{BatchReader, ReadFault, Segment, Shape};
 use std::alloc::{AllocError, Global};
 
 /// Judges the record in the room and makes its line.
-fn judge_record(room: &Segment, line: &mut Vec<u8>, progress: &mut Progress) -> Result<(), AllocError>
+fn judge_record(
+    room: &Segment,
+    line: &mut Vec<u8>,
+    progress: &mut Progress,
+) -> Result<(), AllocError>
     requires used { used_in room.now ≡ 1 }
     requires shape { IsCountShape (shape_in room.now) }
     requires few { progress.old.accepted < 2 ^ 63 }
@@ -40,7 +44,12 @@ fn judge_record(room: &Segment, line: &mut Vec<u8>, progress: &mut Progress) -> 
 
 /// Judges the record in the room and writes its line.
 #[tactic(auto, using(flp_io::proofs::WriteLemmas::writes_join))]
-fn write_record<K: Sink>(room: &Segment, line: &mut Vec<u8>, progress: &mut Progress, output: &mut K) -> Result<(), Fault>
+fn write_record<K: Sink>(
+    room: &Segment,
+    line: &mut Vec<u8>,
+    progress: &mut Progress,
+    output: &mut K,
+) -> Result<(), Fault>
     requires used { used_in room.now ≡ 1 }
     requires shape { IsCountShape (shape_in room.now) }
     requires few { progress.old.accepted < 2 ^ 63 }
@@ -62,7 +71,13 @@ fn write_record<K: Sink>(room: &Segment, line: &mut Vec<u8>, progress: &mut Prog
 }
 
 /// Reads the next report, judges it, and writes its line.
-fn one_report<S: Source, K: Sink>(reader: &mut BatchReader<'_, S>, room: &mut Segment, line: &mut Vec<u8>, progress: &mut Progress, output: &mut K) -> Result<(), Fault>
+fn one_report<S: Source, K: Sink>(
+    reader: &mut BatchReader<'_, S>,
+    room: &mut Segment,
+    line: &mut Vec<u8>,
+    progress: &mut Progress,
+    output: &mut K,
+) -> Result<(), Fault>
     requires left { 0 < reports_left reader.old }
     requires shape { IsCountShape (shape_in room.old) }
     requires room { 0 < room_of room.old }
@@ -92,7 +107,13 @@ fn one_report<S: Source, K: Sink>(reader: &mut BatchReader<'_, S>, room: &mut Se
 }
 
 /// Reads, judges and writes all reports of a batch, behind its head.
-fn all_reports<S: Source, K: Sink>(alloc: Global, reader: &mut BatchReader<'_, S>, count: u32, progress: &mut Progress, output: &mut K) -> Result<(), Fault>
+fn all_reports<S: Source, K: Sink>(
+    alloc: Global,
+    reader: &mut BatchReader<'_, S>,
+    count: u32,
+    progress: &mut Progress,
+    output: &mut K,
+) -> Result<(), Fault>
     requires left { reports_left reader.old ≡ count }
     requires given { reports_given reader.old ≡ count }
     requires fresh { Follows progress.old [] }
@@ -139,7 +160,12 @@ fn write_ending<K: Sink>(alloc: Global, progress: &Progress, output: &mut K) -> 
 }
 
 /// Reads all reports and the end of the input, behind the head, and then writes the ending.
-fn reports_and_ending<S: Source, K: Sink>(alloc: Global, reader: &mut BatchReader<'_, S>, count: u32, output: &mut K) -> Result<(), Fault>
+fn reports_and_ending<S: Source, K: Sink>(
+    alloc: Global,
+    reader: &mut BatchReader<'_, S>,
+    count: u32,
+    output: &mut K,
+) -> Result<(), Fault>
     requires left { reports_left reader.old ≡ count }
     requires given { reports_given reader.old ≡ count }
     ensures same { SameLoan reader.old reader.new }
@@ -165,7 +191,11 @@ fn reports_and_ending<S: Source, K: Sink>(alloc: Global, reader: &mut BatchReade
 }
 
 /// Reads a batch and writes its text.
-fn verify_batch<S: Source, K: Sink>(alloc: Global, reader: &mut BatchReader<'_, S>, output: &mut K) -> Result<(), Fault>
+fn verify_batch<S: Source, K: Sink>(
+    alloc: Global,
+    reader: &mut BatchReader<'_, S>,
+    output: &mut K,
+) -> Result<(), Fault>
     ensures same { SameLoan reader.old reader.new }
     ensures done { OnOk result (WritesText (S.left (source_of reader.old)) (S.left (source_of reader.new)) (K.taken output.old) (K.taken output.new)) }
     ensures stopped { OnErr result (StopsEarly (S.left (source_of reader.old)) (S.left (source_of reader.new)) (K.taken output.old) (K.taken output.new)

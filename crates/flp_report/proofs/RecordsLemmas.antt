@@ -37,8 +37,13 @@ fault_of-cut front rest n head short =
     let cut : length (front ++ rest) < whole_of (front ++ rest) = omega (arith, sizes.0, sizes.1) in
     let whole : 28 ≤ length front = omega (arith, head.size) in
     let all : 42 ≤ length front = omega (arith, head.size) in
-    rw (le-ltb (length (front ++ rest)) 32 long, has_count_head-append front rest whole ∙ head.head, le-ltb (length (front ++ rest)) 42 longer,
-        has_count_text-append front rest all ∙ head.text, lt-ltb (length (front ++ rest)) (whole_of (front ++ rest)) cut)
+    rw (
+      le-ltb (length (front ++ rest)) 32 long,
+      has_count_head-append front rest whole ∙ head.head,
+      le-ltb (length (front ++ rest)) 42 longer,
+      has_count_text-append front rest all ∙ head.text,
+      lt-ltb (length (front ++ rest)) (whole_of (front ++ rest)) cut,
+    )
     (rw (sizes.0, sizes.1) refl)
 
 -- a file that goes on behind its records
@@ -51,9 +56,14 @@ fault_of-trailing front rest n head more =
     let within : whole_of (front ++ rest) ≤ length (front ++ rest) = omega arith in
     let whole : 28 ≤ length front = omega (arith, head.size) in
     let all : 42 ≤ length front = omega (arith, head.size) in
-    rw (le-ltb (length (front ++ rest)) 32 long, has_count_head-append front rest whole ∙ head.head, le-ltb (length (front ++ rest)) 42 longer,
-        has_count_text-append front rest all ∙ head.text, le-ltb (length (front ++ rest)) (whole_of (front ++ rest)) within,
-        lt-ltb (whole_of (front ++ rest)) (length (front ++ rest)) over)
+    rw (
+      le-ltb (length (front ++ rest)) 32 long,
+      has_count_head-append front rest whole ∙ head.head,
+      le-ltb (length (front ++ rest)) 42 longer,
+      has_count_text-append front rest all ∙ head.text,
+      le-ltb (length (front ++ rest)) (whole_of (front ++ rest)) within,
+      lt-ltb (whole_of (front ++ rest)) (length (front ++ rest)) over,
+    )
     refl
 
 -- a file that ends with its records
@@ -66,9 +76,14 @@ fault_of-none front rest n head same =
     let above : length (front ++ rest) ≤ whole_of (front ++ rest) = omega (arith, sizes.0, sizes.1) in
     let whole : 28 ≤ length front = omega (arith, head.size) in
     let all : 42 ≤ length front = omega (arith, head.size) in
-    rw (le-ltb (length (front ++ rest)) 32 long, has_count_head-append front rest whole ∙ head.head, le-ltb (length (front ++ rest)) 42 longer,
-        has_count_text-append front rest all ∙ head.text, le-ltb (length (front ++ rest)) (whole_of (front ++ rest)) below,
-        le-ltb (whole_of (front ++ rest)) (length (front ++ rest)) above)
+    rw (
+      le-ltb (length (front ++ rest)) 32 long,
+      has_count_head-append front rest whole ∙ head.head,
+      le-ltb (length (front ++ rest)) 42 longer,
+      has_count_text-append front rest all ∙ head.text,
+      le-ltb (length (front ++ rest)) (whole_of (front ++ rest)) below,
+      le-ltb (whole_of (front ++ rest)) (length (front ++ rest)) above,
+    )
     refl
 
 -- the records of a list of records, and of what follows it

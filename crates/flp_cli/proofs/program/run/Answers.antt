@@ -26,7 +26,7 @@ pub returns-clause-complete : goal.returns-clause-complete
 returns-clause-complete g c = λ job bytes is quiet_in quiet_out.
     let answer = c.in-Err.ensures in
     rw c.status.ensures (decided c.in-Err.fault (g.S.Source.left c.args.input.now) bytes is
-        (λ read. quiet_in (answer.read (ap Err read)))
-        (λ write. quiet_out (answer.write (ap Err write)))
-        (λ why batch. answer.refused why (ap Err batch))
-        (λ not_built. answer.not_built (ap Err not_built)))
+    (λ read. quiet_in (answer.read (ap Err read)))
+    (λ write. quiet_out (answer.write (ap Err write)))
+    (λ why batch. answer.refused why (ap Err batch))
+    (λ not_built. answer.not_built (ap Err not_built)))

@@ -20,7 +20,7 @@ returns-in-Ok-clause-done g c =
     let P : List ℕ → Type 0 = Consumes (g.S.Source.left (source_of c.args.reader.now)) (g.S.Source.left (source_of c.segment.new.self)) in
     let read = subst P (sym (record_in-only room used)) c.in-Ok.ensures.records in
     OnOk-both c.write_record.result c.write_record.ensures.follows c.write_record.ensures.written
-        (λ follows written. record { report = record_in room 0; size = size_of-only room shape used; read = read; follows = follows; written = written })
+    (λ follows written. record { report = record_in room 0; size = size_of-only room shape used; read = read; follows = follows; written = written })
 
 pub returns-in-Ok-clause-stopped : goal.returns-in-Ok-clause-stopped
 returns-in-Ok-clause-stopped g c =
@@ -30,4 +30,4 @@ returns-in-Ok-clause-stopped g c =
     let P : List ℕ → Type 0 = Consumes (g.S.Source.left (source_of c.args.reader.now)) (g.S.Source.left (source_of c.segment.new.self)) in
     let read = subst P (sym (record_in-only room used)) c.in-Ok.ensures.records in
     OnErr-map c.write_record.result c.write_record.ensures.front
-        (λ front. inr (record { report = record_in room 0; size = size_of-only room shape used; read = read; written = front }))
+    (λ front. inr (record { report = record_in room 0; size = size_of-only room shape used; read = read; written = front }))

@@ -12,15 +12,15 @@ pub returns-in-Ok-clause-stopped : goal.returns-in-Ok-clause-stopped
 returns-in-Ok-clause-stopped g c =
     let head = c.in-Ok.ensures.bytes in
     OnErr-map c.reports_and_ending.result c.reports_and_ending.ensures.stopped (λ stopped.
-        ⊎_elim
-            (λ early. inl (StopsEarly-behind _ _ _ _ _ head.0 _ head.1 head.2 early))
-            (λ late. inr (late.0, StopsInText-behind _ _ _ _ _ head.0 _ head.1 head.2 late.1))
-            stopped)
+    ⊎_elim
+    (λ early. inl (StopsEarly-behind _ _ _ _ _ head.0 _ head.1 head.2 early))
+    (λ late. inr (late.0, StopsInText-behind _ _ _ _ _ head.0 _ head.1 head.2 late.1))
+    stopped)
 
 pub returns-in-Ok-clause-refused : goal.returns-in-Ok-clause-refused
 returns-in-Ok-clause-refused g c = λ fault is.
     let head = c.in-Ok.ensures.bytes in
     ⊎_elim
-        (λ cut. refused-cut _ _ head.0 _ fault head.1 head.2 cut)
-        (λ trailing. refused-trailing _ _ head.0 _ fault head.1 head.2 trailing)
-        (c.reports_and_ending.ensures.refused fault is)
+    (λ cut. refused-cut _ _ head.0 _ fault head.1 head.2 cut)
+    (λ trailing. refused-trailing _ _ head.0 _ fault head.1 head.2 trailing)
+    (c.reports_and_ending.ensures.refused fault is)
