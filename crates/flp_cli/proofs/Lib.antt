@@ -1,5 +1,7 @@
 pub mod EngineLemmas
+pub mod HonestLemmas
 pub mod JudgedLemmas
+pub mod LawLemmas
 pub mod OutcomeLemmas
 pub mod PartLemmas
 pub mod ProgressLemmas

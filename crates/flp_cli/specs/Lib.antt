@@ -1,5 +1,6 @@
 pub mod Answers
 pub mod Text
+pub mod Laws
 pub mod Reply
 pub mod Engine
 pub mod Progress

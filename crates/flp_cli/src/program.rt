@@ -5,6 +5,7 @@ ghost use Rattle.flp_io.specs.Faults.{Rose};
 ghost use Rattle.flp_report.specs.Batch.{fault_of};
 ghost use Rattle.flp_report.specs.declared.fault.BatchFault.{BatchFault};
 ghost use Rattle.flp_cli.specs.Answers.{IsJob, is_status, status_for, line_of_fault, line_for};
+ghost use Rattle.flp_cli.specs.Laws.{JudgesOnce, AcceptsHonest};
 ghost use Rattle.flp_cli.specs.Reply.{WritesText, StopsInText, Verifies, StopsEarly, StopsLate};
 
 use crate::answers::{is_job, put_fault, status};
@@ -77,6 +78,11 @@ pub fn run<R: Threads + Sync, S: Source, K: Sink, E: Sink, G: Gate>(
     // The headline: what is written, and that all was read.
     ensures done { result ≡ 0 → Verifies (S.left input.old) (S.left input.new) (K.taken output.old) (K.taken output.new)
         (λ more. map (λ p. would p more) policies.items) }
+
+    // Laws of the text's verdicts: each nonce counts at its first place alone, and an honest report
+    // is accepted.
+    ensures once { (reports : List (List ℕ)) → JudgesOnce reports }
+    ensures honest { (reports : List (List ℕ)) → AcceptsHonest reports }
 
     // What was written where the run ended earlier.
     ensures stopped { result ≢ 0 → result ≢ 2 → StopsEarly (S.left input.old) (S.left input.new) (K.taken output.old) (K.taken output.new)

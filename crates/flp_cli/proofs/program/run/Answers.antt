@@ -4,6 +4,7 @@ use Rattle.std.specs.Io.KnownBytes.{Appends}
 use Rattle.flp_cli.specs.declared.fault.Fault.{Fault}
 use Rattle.flp_cli.specs.Answers.{is_status, line_of_fault}
 use Rattle.flp_cli.proofs.StatusLemmas.{status-batch, whole-read, decided, known-fault, Appends-nothing}
+use Rattle.flp_cli.proofs.LawLemmas.{judges_once, accepts_honest}
 use Rattle.flp_cli.proofs.program.run.Goals as goal
 
 pub returns-in-Ok-clause-complete : goal.returns-in-Ok-clause-complete
@@ -30,3 +31,21 @@ returns-clause-complete g c = λ job bytes is quiet_in quiet_out.
     (λ write. quiet_out (answer.write (ap Err write)))
     (λ why batch. answer.refused why (ap Err batch))
     (λ not_built. answer.not_built (ap Err not_built)))
+
+pub returns-then-not-is_job-clause-once : goal.returns-then-not-is_job-clause-once
+returns-then-not-is_job-clause-once g c = judges_once
+
+pub returns-then-not-is_job-clause-honest : goal.returns-then-not-is_job-clause-honest
+returns-then-not-is_job-clause-honest g c = accepts_honest
+
+pub returns-in-Ok-clause-once : goal.returns-in-Ok-clause-once
+returns-in-Ok-clause-once g c = judges_once
+
+pub returns-in-Ok-clause-honest : goal.returns-in-Ok-clause-honest
+returns-in-Ok-clause-honest g c = accepts_honest
+
+pub returns-clause-once : goal.returns-clause-once
+returns-clause-once g c = judges_once
+
+pub returns-clause-honest : goal.returns-clause-honest
+returns-clause-honest g c = accepts_honest
