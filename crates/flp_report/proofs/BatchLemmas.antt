@@ -60,10 +60,10 @@ IsHead-joined front text n numbers is_text =
 -- what the tests of a file see of its first 32 bytes
 fault_of-behind : (front rest : List ℕ) (n : ℕ) → IsNumbers front n
     → fault_of (front ++ rest) ≡ (if nat_lt (length (front ++ rest)) 42 then truncated (front ++ rest) 42
-        else (if not (starts_with nat_eq rest count_text) then Some NotBuilt
-        else (if nat_lt (length (front ++ rest)) (whole_of (front ++ rest)) then truncated (front ++ rest) (whole_of (front ++ rest))
-        else (if nat_lt (whole_of (front ++ rest)) (length (front ++ rest)) then Some (Batch Trailing)
-        else None))))
+    else (if not (starts_with nat_eq rest count_text) then Some NotBuilt
+    else (if nat_lt (length (front ++ rest)) (whole_of (front ++ rest)) then truncated (front ++ rest) (whole_of (front ++ rest))
+    else (if nat_lt (whole_of (front ++ rest)) (length (front ++ rest)) then Some (Batch Trailing)
+    else None))))
 fault_of-behind front rest n numbers =
     let size = length-append front rest in
     let long : 32 ≤ length (front ++ rest) = omega (arith, size, numbers.size) in
@@ -89,19 +89,19 @@ text-other front rest n fault numbers long text =
     let later = le-ltb (length rest) 10 long in
     let behind = fault_of-behind front rest n numbers in
     ⊎_elim
-        (λ (same : starts_with nat_eq rest count_text ≡ true).
-            let is : text_fault_of rest ≡ None = rw (later, same) refl in
-            let none : None ≡ Some fault = sym is ∙ text in
-            cc)
-        (λ (other : starts_with nat_eq rest count_text ≡ false).
-            let is : text_fault_of rest ≡ Some NotBuilt = rw (later, other) refl in
-            behind ∙ (rw (le-ltb (length (front ++ rest)) 42 longer, other) refl ∙ (sym is ∙ text)))
-        (cases_Bool (starts_with nat_eq rest count_text))
+    (λ (same : starts_with nat_eq rest count_text ≡ true).
+    let is : text_fault_of rest ≡ None = rw (later, same) refl in
+    let none : None ≡ Some fault = sym is ∙ text in
+    cc)
+    (λ (other : starts_with nat_eq rest count_text ≡ false).
+    let is : text_fault_of rest ≡ Some NotBuilt = rw (later, other) refl in
+    behind ∙ (rw (le-ltb (length (front ++ rest)) 42 longer, other) refl ∙ (sym is ∙ text)))
+    (cases_Bool (starts_with nat_eq rest count_text))
 
 -- a file that begins as it should goes on with the faults of its text
 pub fault_of-numbers : (front rest : List ℕ) (n : ℕ) (fault : ReadFault) → IsNumbers front n → text_fault_of rest ≡ Some fault → fault_of (front ++ rest) ≡ Some fault
 fault_of-numbers front rest n fault numbers text =
     ⊎_elim
-        (λ (short : length rest < 10). text-short front rest n fault numbers short text)
-        (λ (long : 10 ≤ length rest). text-other front rest n fault numbers long text)
-        (cases_lt (length rest) 10)
+    (λ (short : length rest < 10). text-short front rest n fault numbers short text)
+    (λ (long : 10 ≤ length rest). text-other front rest n fault numbers long text)
+    (cases_lt (length rest) 10)

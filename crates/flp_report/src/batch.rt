@@ -36,7 +36,12 @@ pub struct Header {
 }
 
 /// Fills the buffer, whose first byte has `before` bytes of the file in front of it, out of `need`.
-fn read_whole<S: Source>(source: &mut S, buf: &mut [u8], before: u64, need: u64) -> Result<(), ReadFault>
+fn read_whole<S: Source>(
+    source: &mut S,
+    buf: &mut [u8],
+    before: u64,
+    need: u64,
+) -> Result<(), ReadFault>
     requires { before + length buf.old < 2 ^ 63 }
     ensures bytes { OnOk result (Consumes (S.left source.old) (S.left source.new) buf.new) }
     ensures moved { ConsumesSome (S.left source.old) (S.left source.new) }
@@ -53,7 +58,13 @@ fn read_whole<S: Source>(source: &mut S, buf: &mut [u8], before: u64, need: u64)
 }
 
 /// Fills the first `wanted` bytes of the room, as [`read_whole`] does.
-fn read_front<S: Source>(source: &mut S, room: &mut [u8], wanted: usize, before: u64, need: u64) -> Result<(), ReadFault>
+fn read_front<S: Source>(
+    source: &mut S,
+    room: &mut [u8],
+    wanted: usize,
+    before: u64,
+    need: u64,
+) -> Result<(), ReadFault>
     requires wanted { wanted ≤ length room.old }
     requires fits { before + wanted < 2 ^ 63 }
     ensures bytes { OnOk result (Consumes (S.left source.old) (S.left source.new) (take wanted room.new)) }

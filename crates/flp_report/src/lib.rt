@@ -21,6 +21,8 @@ mod fault;
 mod record;
 mod segment;
 mod shape;
+#[cfg(test)]
+mod tests;
 
 pub use batch::{BatchReader, Header};
 pub use fault::{BatchFault, ReadFault};

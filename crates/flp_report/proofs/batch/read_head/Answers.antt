@@ -9,8 +9,8 @@ pub returns-in-Err-clause-fault : goal.returns-in-Err-clause-fault
 returns-in-Err-clause-fault g c =
     let numbers = c.in_ok-reports.ensures.bytes in
     λ other. IfSome-before (λ b. fault_of b ≡ Some c.in-Err.fault) (λ b. text_fault_of b ≡ Some c.in-Err.fault)
-        _ _ numbers.0 numbers.2 (c.in-Err.ensures.fault other)
-        (λ rest text. fault_of-numbers numbers.0 rest _ c.in-Err.fault numbers.1 text)
+    _ _ numbers.0 numbers.2 (c.in-Err.ensures.fault other)
+    (λ rest text. fault_of-numbers numbers.0 rest _ c.in-Err.fault numbers.1 text)
 
 pub returns-in-Err-clause-moved : goal.returns-in-Err-clause-moved
 returns-in-Err-clause-moved g c =

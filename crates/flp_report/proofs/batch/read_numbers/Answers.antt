@@ -12,9 +12,9 @@ returns-then-not-starts_with-clause-fault g c =
     let size : length head ≡ 32 = c.read_whole.auto.buf in
     let other : has_count_head head ≡ false = sym c.starts_with.ensures.value ∙ c.if-not-starts_with.true in
     λ _. IfSome-consumed (λ b. fault_of b ≡ Some NotBuilt) _ _ head c.in_ok-read_whole.ensures.bytes (λ rest.
-        let long : 32 ≤ length (head ++ rest) = omega (arith, length-append head rest, size) in
-        let front : 28 ≤ length head = omega (arith, size) in
-        fault_of-head (head ++ rest) long (has_count_head-append head rest front ∙ other))
+    let long : 32 ≤ length (head ++ rest) = omega (arith, length-append head rest, size) in
+    let front : 28 ≤ length head = omega (arith, size) in
+    fault_of-head (head ++ rest) long (has_count_head-append head rest front ∙ other))
 
 pub returns-clause-bytes : goal.returns-clause-bytes
 returns-clause-bytes g c =
