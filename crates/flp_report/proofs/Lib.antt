@@ -2,3 +2,4 @@ pub mod BatchLemmas
 pub mod KnownLemmas
 pub mod PlacesLemmas
 pub mod WordsLemmas
+pub mod ReadsLemmas
