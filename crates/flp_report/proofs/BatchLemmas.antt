@@ -1,8 +1,8 @@
 -- The first fault of a file, from its parts, and what a file shares with its front.
-use Rattle.std.proofs.Common.{◌≡◌, ◌≢◌, ℕ, zero, suc, ◌+◌, ◌-◌, ◌*◌, ◌/◌, ◌<◌, ◌≤◌, min, List, [], ◌∷◌, ◌++◌, length, take, drop, Bool, true, false, not, nat_lt, nat_eq, if◌then◌else◌, Option, Some, None, refl, sym, ap, subst, ◌∙◌, arith, ⊎_elim, All, append_assoc, append-nil, length-append, length-take, length-drop}
-use Rattle.std.proofs.lemmas.Bool.{lt-ltb, le-ltb, cases_lt, cases_Bool, ltb-true, ltb-false}
+use Rattle.std.proofs.Common.{◌≡◌, ℕ, ◌+◌, ◌<◌, ◌≤◌, List, ◌++◌, length, drop, true, false, not, nat_lt, nat_eq, if◌then◌else◌, Some, None, refl, sym, ap, ◌∙◌, arith, ⊎_elim, length-append, length-drop}
+use Rattle.std.proofs.lemmas.Bool.{lt-ltb, le-ltb, cases_lt, cases_Bool}
 use Rattle.std.proofs.Math.Seq.{drop-append_seam}
-use Rattle.std.proofs.lemmas.List.{take-append-le, drop-append-le, drop-drop, take_at, drop_at, take_all}
+use Rattle.std.proofs.lemmas.List.{take-append-le, drop-append-le}
 use Rattle.std.specs.Cmp.Lexicographic.{pointwise}
 use Rattle.std.specs.List.{starts_with}
 use Rattle.byteorder.specs.Endian.{little_number}
@@ -10,7 +10,7 @@ use Rattle.byteorder.specs.Numbers.{little_from-append}
 use Rattle.flp_report.specs.declared.fault.ReadFault.{ReadFault}
 use Rattle.flp_report.specs.declared.fault.ReadFault.TheVariants.{NotBuilt, Batch}
 use Rattle.flp_report.specs.declared.fault.BatchFault.TheVariants.{Truncated, Trailing}
-use Rattle.flp_report.specs.Batch.{count_head, count_text, has_count_head, has_count_text, reports_of, whole_of, truncated, fault_of, records, whole_records, IsNumbers, IsText, IsHead, text_fault_of}
+use Rattle.flp_report.specs.Batch.{count_head, count_text, has_count_head, has_count_text, reports_of, whole_of, truncated, fault_of, IsNumbers, IsText, IsHead, text_fault_of}
 
 -- a file shares the first bytes of its head with its front
 pub has_count_head-append : (front rest : List ℕ) → 28 ≤ length front → has_count_head (front ++ rest) ≡ has_count_head front

@@ -4,3 +4,4 @@ pub mod PlacesLemmas
 pub mod RecordsLemmas
 pub mod SegmentLemmas
 pub mod WordsLemmas
+pub mod ReadsLemmas

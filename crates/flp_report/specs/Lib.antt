@@ -4,3 +4,4 @@ pub mod Record
 pub mod Segment
 pub mod Batch
 pub mod Reader
+pub mod Reads

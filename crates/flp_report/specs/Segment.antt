@@ -1,5 +1,5 @@
 -- What a segment has room for and what the last reading left in it.
-use Rattle.std.specs.Prelude.{ℕ, ◌*◌, ◌+◌, List, take, drop}
+use Rattle.std.specs.Prelude.{ℕ, ◌*◌, List, take, drop}
 use Rattle.flp_report.specs.declared.shape.Shape.{Shape}
 use Rattle.flp_report.specs.declared.segment.Segment.{Segment}
 use Rattle.flp_report.specs.Shape.{bytes_of}

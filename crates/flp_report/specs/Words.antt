@@ -1,5 +1,5 @@
 -- Words as they stand in a file, 8 bytes each, the lowest byte first.
-use Rattle.std.specs.Prelude.{ℕ, zero, suc, ◌*◌, List, [], ◌∷◌, Option, nat_le, drop}
+use Rattle.std.specs.Prelude.{ℕ, zero, suc, List, [], ◌∷◌, Option, nat_le, drop}
 use Rattle.std.specs.List.{position_from}
 use Rattle.byteorder.specs.Endian.{little_number}
 use Rattle.flp_field.specs.Word.{modulus}

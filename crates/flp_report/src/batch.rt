@@ -4,6 +4,7 @@ ghost use Rattle.std.specs.Io.KnownBytes.{Consumes, IsAtEnd};
 ghost use Rattle.flp_io.specs.Faults.{Rose};
 ghost use Rattle.flp_io.specs.Reads.{ConsumesSome};
 ghost use Rattle.flp_report.specs.Batch.{fault_of, IsHead, IsNumbers, IsText, text_fault_of};
+ghost use Rattle.flp_report.specs.Reads.{ConsumesAtMost};
 
 use crate::fault::{BatchFault, ReadFault};
 use crate::segment::Segment;
@@ -25,7 +26,8 @@ const HEAD_BYTES: u64 = 42;
 /// The bytes of one Count report.
 const RECORD_BYTES: u64 = 120;
 
-/// What stands in front of the records of a batch.
+/// What stands in front of the records of a batch: how many shares and proofs a report has, the
+/// circuit text, and how many old claims and reports follow.
 #[derive(Debug, PartialEq, Eq, Drop)]
 pub struct Header {
     pub shares: u32,
@@ -45,6 +47,7 @@ fn read_whole<S: Source>(
     requires { before + length buf.old < 2 ^ 63 }
     ensures bytes { OnOk result (Consumes (S.left source.old) (S.left source.new) buf.new) }
     ensures moved { ConsumesSome (S.left source.old) (S.left source.new) }
+    ensures few { ConsumesAtMost (length buf.old) (S.left source.old) (S.left source.new) }
     ensures fault { OnErr result ((result ≡ Err ReadFault.Failed) ⊎ ((n : ℕ) × (result ≡ Err (ReadFault.Batch (BatchFault.Truncated (before + n) need)))
         × (n < length buf.old) × IfSome (S.left source.old) (λ left. length left ≡ n))) }
     ensures failed { result ≡ Err ReadFault.Failed → Rose (S.faults source.old) (S.faults source.new) }
@@ -69,6 +72,7 @@ fn read_front<S: Source>(
     requires fits { before + wanted < 2 ^ 63 }
     ensures bytes { OnOk result (Consumes (S.left source.old) (S.left source.new) (take wanted room.new)) }
     ensures moved { ConsumesSome (S.left source.old) (S.left source.new) }
+    ensures few { ConsumesAtMost wanted (S.left source.old) (S.left source.new) }
     ensures fault { OnErr result ((result ≡ Err ReadFault.Failed) ⊎ ((n : ℕ) × (result ≡ Err (ReadFault.Batch (BatchFault.Truncated (before + n) need)))
         × (n < wanted) × IfSome (S.left source.old) (λ left. length left ≡ n))) }
     ensures failed { result ≡ Err ReadFault.Failed → Rose (S.faults source.old) (S.faults source.new) }
@@ -85,6 +89,9 @@ fn read_numbers<S: Source>(source: &mut S) -> Result<u32, ReadFault>
         → IfSome (S.left source.old) (λ bytes. fault_of bytes ≡ Some fault)) }
     ensures no_memory { result ≢ Err ReadFault.Memory }
     ensures moved { ConsumesSome (S.left source.old) (S.left source.new) }
+    ensures few { ConsumesAtMost 32 (S.left source.old) (S.left source.new) }
+    ensures early { (have need : ℕ) → result ≡ Err (ReadFault.Batch (BatchFault.Truncated have need)) → need ≡ 32 }
+    ensures not_trailing { result ≢ Err (ReadFault.Batch BatchFault.Trailing) }
     ensures failed { result ≡ Err ReadFault.Failed → Rose (S.faults source.old) (S.faults source.new) }
     ensures later { S.faults source.old ≤ S.faults source.new }
 {
@@ -104,6 +111,9 @@ fn read_text<S: Source>(source: &mut S) -> Result<(), ReadFault>
         → IfSome (S.left source.old) (λ bytes. text_fault_of bytes ≡ Some fault)) }
     ensures no_memory { result ≢ Err ReadFault.Memory }
     ensures moved { ConsumesSome (S.left source.old) (S.left source.new) }
+    ensures few { ConsumesAtMost 10 (S.left source.old) (S.left source.new) }
+    ensures early { (have need : ℕ) → result ≡ Err (ReadFault.Batch (BatchFault.Truncated have need)) → need ≡ 42 }
+    ensures not_trailing { result ≢ Err (ReadFault.Batch BatchFault.Trailing) }
     ensures failed { result ≡ Err ReadFault.Failed → Rose (S.faults source.old) (S.faults source.new) }
     ensures later { S.faults source.old ≤ S.faults source.new }
 {
@@ -123,6 +133,9 @@ fn read_head<S: Source>(source: &mut S) -> Result<u32, ReadFault>
         → IfSome (S.left source.old) (λ bytes. fault_of bytes ≡ Some fault)) }
     ensures no_memory { result ≢ Err ReadFault.Memory }
     ensures moved { ConsumesSome (S.left source.old) (S.left source.new) }
+    ensures few { ConsumesAtMost 42 (S.left source.old) (S.left source.new) }
+    ensures early { (have need : ℕ) → result ≡ Err (ReadFault.Batch (BatchFault.Truncated have need)) → (need ≡ 32) ⊎ (need ≡ 42) }
+    ensures not_trailing { result ≢ Err (ReadFault.Batch BatchFault.Trailing) }
     ensures failed { result ≡ Err ReadFault.Failed → Rose (S.faults source.old) (S.faults source.new) }
     ensures later { S.faults source.old ≤ S.faults source.new }
 {
@@ -133,7 +146,12 @@ fn read_head<S: Source>(source: &mut S) -> Result<u32, ReadFault>
     }
 }
 
-/// A reader of one batch. `head` comes first, then `segment` until no report is left, then `end`.
+/// A reader of one batch, which borrows its source.
+///
+/// [`head`](BatchReader::head) comes first, then [`segment`](BatchReader::segment) until no report
+/// is left, then [`end`](BatchReader::end). After a [`ReadFault`] no further call of the reader
+/// means anything. The reader takes from its source no more bytes than the head's numbers give, and
+/// one more to see the end.
 #[derive(Drop)]
 pub struct BatchReader<'a, S> {
     source: &'a mut S,
@@ -147,7 +165,7 @@ impl<'a, S: Source> BatchReader<'a, S> {
     ghost use Rattle.flp_report.specs.Segment.{shape_in, room_of, used_in, held_in};
     ghost use Rattle.flp_report.specs.Reader.{source_of, loan_of, SameLoan, reports_given, reports_left, place_of, size_of_file, count_header};
 
-    /// A reader that stands at the source's next byte.
+    /// A reader whose batch begins at the source's next byte. It reads nothing yet.
     pub fn new(source: &'a mut S) -> BatchReader<'a, S>
         ensures same { loan_of result ≡ source.entry.ghost_name }
         ensures source { source_of result ≡ source.old }
@@ -159,7 +177,12 @@ impl<'a, S: Source> BatchReader<'a, S> {
         }
     }
 
-    /// Reads what stands in front of the records. It answers the first fault of the batch up to there.
+    /// Reads what stands in front of the records: the head of 32 bytes and the text of 10. The
+    /// `party` must be `None`.
+    ///
+    /// An error is the first fault of the file up to its text: [`BatchFault::Truncated`] with a need
+    /// of 32 or 42 bytes, or [`ReadFault::NotBuilt`]; or else [`ReadFault::Failed`], or
+    /// [`ReadFault::Memory`] where the header's text found no room.
     pub fn head(&mut self, alloc: Global, party: Option<u32>) -> Result<Header, ReadFault>
         requires { party ≡ None }
         ensures same { SameLoan self.old self.new }
@@ -170,9 +193,12 @@ impl<'a, S: Source> BatchReader<'a, S> {
         ensures left { IfOk result (λ header. reports_left self.new ≡ header.reports) }
         ensures fault { IfErr result (λ fault. fault ≢ ReadFault.Memory → fault ≢ ReadFault.Failed
             → IfSome (S.left (source_of self.old)) (λ bytes. fault_of bytes ≡ Some fault)) }
+        ensures early { (have need : ℕ) → result ≡ Err (ReadFault.Batch (BatchFault.Truncated have need)) → (need ≡ 32) ⊎ (need ≡ 42) }
+        ensures not_trailing { result ≢ Err (ReadFault.Batch BatchFault.Trailing) }
 
         // At every outcome.
         ensures moved { ConsumesSome (S.left (source_of self.old)) (S.left (source_of self.new)) }
+        ensures few { ConsumesAtMost 42 (S.left (source_of self.old)) (S.left (source_of self.new)) }
         ensures failed { result ≡ Err ReadFault.Failed → Rose (S.faults (source_of self.old)) (S.faults (source_of self.new)) }
         ensures later { S.faults (source_of self.old) ≤ S.faults (source_of self.new) }
     {
@@ -189,7 +215,11 @@ impl<'a, S: Source> BatchReader<'a, S> {
         })
     }
 
-    /// Reads the next `count` records into the room.
+    /// Reads the next `count` records into the room, 120 bytes each: at most the reports that are
+    /// left, and at most what the room holds. It takes no memory.
+    ///
+    /// An error is [`BatchFault::Truncated`] with the bytes of the file that came and those of the
+    /// whole file, or [`ReadFault::Failed`]; the room then holds no record.
     pub fn segment(&mut self, count: u32, room: &mut Segment) -> Result<(), ReadFault>
         requires left { count ≤ reports_left self.old }
         requires shape { IsCountShape (shape_in room.old) }
@@ -204,9 +234,11 @@ impl<'a, S: Source> BatchReader<'a, S> {
         ensures fault { OnErr result ((result ≡ Err ReadFault.Failed)
             ⊎ ((n : ℕ) × (result ≡ Err (ReadFault.Batch (BatchFault.Truncated (place_of self.old + n) (size_of_file self.old))))
             × (n < 120 * count) × IfSome (S.left (source_of self.old)) (λ left. length left ≡ n))) }
+        ensures none_held { OnErr result (used_in room.new ≡ 0) }
 
         // At every outcome.
         ensures moved { ConsumesSome (S.left (source_of self.old)) (S.left (source_of self.new)) }
+        ensures few { ConsumesAtMost (120 * count) (S.left (source_of self.old)) (S.left (source_of self.new)) }
         ensures failed { result ≡ Err ReadFault.Failed → Rose (S.faults (source_of self.old)) (S.faults (source_of self.new)) }
         ensures later { S.faults (source_of self.old) ≤ S.faults (source_of self.new) }
     {
@@ -220,7 +252,9 @@ impl<'a, S: Source> BatchReader<'a, S> {
         Ok(())
     }
 
-    /// Sees that the input ends here.
+    /// Sees that the input ends behind the last record, when no report is left. It takes no memory.
+    ///
+    /// An error is [`BatchFault::Trailing`] where a byte follows, or [`ReadFault::Failed`].
     pub fn end(&mut self) -> Result<(), ReadFault>
         requires { reports_left self.old ≡ 0 }
         ensures same { SameLoan self.old self.new }
@@ -231,6 +265,7 @@ impl<'a, S: Source> BatchReader<'a, S> {
 
         // At every outcome.
         ensures moved { ConsumesSome (S.left (source_of self.old)) (S.left (source_of self.new)) }
+        ensures few { ConsumesAtMost 1 (S.left (source_of self.old)) (S.left (source_of self.new)) }
         ensures failed { result ≡ Err ReadFault.Failed → Rose (S.faults (source_of self.old)) (S.faults (source_of self.new)) }
         ensures later { S.faults (source_of self.old) ≤ S.faults (source_of self.new) }
     {

@@ -2,9 +2,10 @@
 ghost use Rattle.std.specs.Prelude.{◌≡◌};
 ghost use Rattle.flp_report.specs.declared.fault.ReadFault.TheVariants.{Memory as OutOfMemory};
 
-use std::alloc::{AllocError, AllocFailed};
+use std::alloc::AllocError;
 
-/// Why the bytes are no batch. The numbers are counts of bytes.
+/// Why the bytes are no batch of the kind that its head tells. The numbers are counts of bytes of
+/// the file.
 #[derive(Clone, Copy, Debug, PartialEq, Eq)]
 pub enum BatchFault {
     /// The input ended after the first number of bytes, where the second was needed.
@@ -20,7 +21,7 @@ pub enum ReadFault {
     Memory,
     /// The source failed in this call, and its count of faults rose.
     Failed,
-    /// The head is not that of a batch of Count reports, the one kind that is built.
+    /// The head or the text is not that of a batch of Count reports, the one kind that is built.
     NotBuilt,
     /// The bytes are no batch.
     Batch(BatchFault),

@@ -2,18 +2,21 @@
 //!
 //! A batch is a head of 32 bytes, the circuit text, and the records, each a nonce of 16 bytes and
 //! then words of 8 bytes, all numbers little-endian. `specs/Batch.antt` says of every list of bytes
-//! whether it is a batch, which is its first fault where it is none, and which records stand whole
-//! in front of the fault.
+//! which is its first fault, or that it is a batch, and which records stand whole behind a head and
+//! a text without fault.
 //!
 //! | To | Use |
 //! |---|---|
 //! | read a batch from a [`flp_io::Source`] | [`BatchReader`]: `head`, then `segment` over all reports, then `end` |
-//! | hold the records that were read | [`Segment`], made once and used again |
-//! | look at one record | [`Record`]: its nonce, the parts of its shares, its words |
-//! | bring the bytes of words into the field | [`load`] |
+//! | hold the records that were read | [`Segment`], made once for a [`Shape`] and filled again and again |
+//! | look at one record | [`Record`], which `Segment::record_at` lends: its nonce, the parts of its shares, its words |
+//! | bring the bytes of words into the field | [`load`], where `Record::bad_word` found none |
 //!
 //! Today a batch is one of Count reports: two shares, one proof, the text `use count;` and no old
-//! claims. Every other head is [`ReadFault::NotBuilt`].
+//! claims, 120 bytes a report. Every other head or text is [`ReadFault::NotBuilt`]. The faults come
+//! in one order: the input ends within the head, another head, it ends within the text, another
+//! text, it ends within the records, a byte follows the last record. A failed read is told where it
+//! happens, in place of what would follow.
 #![tactic(auto)]
 
 mod batch;
@@ -21,6 +24,8 @@ mod fault;
 mod record;
 mod segment;
 mod shape;
+#[cfg(test)]
+mod tests;
 
 pub use batch::{BatchReader, Header};
 pub use fault::{BatchFault, ReadFault};

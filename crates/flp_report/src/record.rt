@@ -10,7 +10,11 @@ use crate::shape::{RECORD_LIMIT, Shape};
 use byteorder::{ByteOrder, LittleEndian};
 use flp_field::{Fe, MODULUS};
 
-/// A record: a nonce of 16 bytes, and then its words in 8 bytes each.
+/// A record: a nonce of 16 bytes, and then its words in 8 bytes each, the lowest byte first.
+///
+/// The words are, for each share, those of its share of the encoding and of each proof; and then,
+/// for each proof, its joint words and its query words. Every part is lent without copying, and
+/// [`load`] brings it into the field once [`bad_word`](Record::bad_word) found none.
 #[derive(Clone, Copy, Debug)]
 pub struct Record<'a> {
     shape: Shape,
@@ -40,7 +44,8 @@ impl<'a> Record<'a> {
         &self.bytes[..16]
     }
 
-    /// The bytes of one share's part: the encoding's words, and then the words of each proof.
+    /// The bytes of one share's part, [`Shape::part`] words: the encoding's words, and then the words
+    /// of each proof. Shares are numbered from 0.
     pub fn share(&self, share: u32) -> &'a [u8]
         requires { share < (shape_of self.now).shares }
         ensures { result.now ≡ share_in (shape_of self.now) (record_of self.now) share }
@@ -61,7 +66,7 @@ impl<'a> Record<'a> {
         (16 + 8 * (shares + u64::from(proof) * own)) as usize
     }
 
-    /// The bytes of one proof's joint words.
+    /// The bytes of one proof's joint words. Proofs are numbered from 0.
     pub fn joint(&self, proof: u32) -> &'a [u8]
         requires { proof < (shape_of self.now).proofs }
         ensures { result.now ≡ joint_in (shape_of self.now) (record_of self.now) proof }
@@ -70,7 +75,7 @@ impl<'a> Record<'a> {
         &self.bytes[start..start + 8 * self.shape.joint as usize]
     }
 
-    /// The bytes of one proof's query words.
+    /// The bytes of one proof's query words. Proofs are numbered from 0.
     pub fn query(&self, proof: u32) -> &'a [u8]
         requires { proof < (shape_of self.now).proofs }
         ensures { result.now ≡ query_in (shape_of self.now) (record_of self.now) proof }
@@ -79,7 +84,8 @@ impl<'a> Record<'a> {
         &self.bytes[start..start + 8 * self.shape.query as usize]
     }
 
-    /// The number of the first word, from 0 after the nonce, that is no word of the field.
+    /// The number of the first word, from 0 after the nonce, that is not below the modulus; `None`
+    /// where all words are words of the field.
     pub fn bad_word(&self) -> Option<u32>
         ensures { result ≡ bad_word_in (words (words_of (shape_of self.now)) (drop 16 (record_of self.now))) }
     {
@@ -102,7 +108,8 @@ fn number_at(bytes: &[u8], index: usize) -> u64
     LittleEndian::read_u64(&bytes[8 * index..])
 }
 
-/// Brings the words in `bytes`, 8 bytes each, into the field.
+/// Brings the words in `bytes`, 8 bytes each, into the field, in their order. There are as many as
+/// `out` has places, and each is below the modulus.
 pub fn load(bytes: &[u8], out: &mut [Fe])
     requires size { length bytes.now ≡ 8 * length out.old }
     requires below { All IsWord (words (length out.old) bytes.now) }

@@ -9,6 +9,9 @@ use crate::shape::{RECORD_LIMIT, Shape};
 use std::alloc::Global;
 
 /// Room for a number of records of one shape, and the records that the last reading left in it.
+///
+/// It is made once, and [`BatchReader::segment`](crate::BatchReader::segment) fills it again and
+/// again without taking memory.
 #[derive(Drop)]
 pub struct Segment {
     shape: Shape,
@@ -24,7 +27,7 @@ impl Segment {
     ghost use Rattle.flp_report.specs.Record.{record_of, shape_of};
     ghost use Rattle.flp_report.specs.Segment.{room_of, used_in, shape_in, record_in};
 
-    /// Room for `count` records of this shape, with none in it.
+    /// Room for `count` records of this shape, each of at most [`RECORD_LIMIT`] bytes, with none in it.
     pub fn new(alloc: Global, shape: &Shape, count: u32) -> Result<Segment, Memory>
         requires { bytes_of shape.now ≤ RECORD_LIMIT }
         ensures shape { IfOk result (λ s. shape_in s ≡ shape.now) }
@@ -41,7 +44,7 @@ impl Segment {
         })
     }
 
-    /// The record of this number, from 0, among those of the last reading.
+    /// The record of this number, from 0, among those of the last reading. Its bytes are lent.
     pub fn record_at(&self, index: u32) -> Record<'_>
         requires { index < used_in self.now }
         ensures bytes { record_of result ≡ record_in self.now index }

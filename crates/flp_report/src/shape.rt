@@ -4,7 +4,11 @@ ghost use Rattle.std.specs.Prelude.{◌≡◌, ◌^◌, ◌<◌, ◌≤◌};
 /// The most bytes of one record.
 pub const RECORD_LIMIT: u64 = 16777216;
 
-/// How many shares and proofs a record has and how many words each part, whatever the circuit.
+/// How many shares and proofs a record has, at most 16 each, and how many words each part has,
+/// whatever the circuit.
+///
+/// `meas` counts the words of one share of the encoding, `proof` those of one share of one proof,
+/// `joint` and `query` the challenge words of one proof.
 #[derive(Clone, Copy, Debug, PartialEq, Eq)]
 pub struct Shape {
     pub shares: u32,

@@ -1,8 +1,9 @@
-use Rattle.std.proofs.Common.{◌≡◌, ◌++◌, Some}
+use Rattle.std.proofs.Common.{◌≡◌, ◌+◌, ◌≤◌, ◌++◌, Some, length, arith}
 use Rattle.std.proofs.KnownBytes.{Consumes-trans}
 use Rattle.flp_report.specs.Batch.{fault_of, text_fault_of}
 use Rattle.flp_report.proofs.KnownLemmas.{IfSome-before}
 use Rattle.flp_report.proofs.BatchLemmas.{fault_of-numbers, IsHead-joined}
+use Rattle.flp_report.proofs.ReadsLemmas.{ConsumesAtMost-after}
 use Rattle.flp_report.proofs.batch.read_head.Goals as goal
 
 pub returns-in-Err-clause-fault : goal.returns-in-Err-clause-fault
@@ -29,3 +30,15 @@ returns-in-Ok-clause-moved g c =
     let numbers = c.in_ok-reports.ensures.bytes in
     let text = c.in-Ok.ensures.moved in
     record { bytes = numbers.0 ++ text.bytes; gone = Consumes-trans _ _ _ numbers.0 text.bytes numbers.2 text.gone }
+
+pub returns-in-Ok-clause-few : goal.returns-in-Ok-clause-few
+returns-in-Ok-clause-few g c =
+    let numbers = c.in_ok-reports.ensures.bytes in
+    let fits : length numbers.0 + 10 ≤ 42 = omega (arith, numbers.1.size) in
+    ConsumesAtMost-after _ _ _ numbers.0 10 42 numbers.2 c.in-Ok.ensures.few fits
+
+pub returns-in-Err-clause-few : goal.returns-in-Err-clause-few
+returns-in-Err-clause-few g c =
+    let numbers = c.in_ok-reports.ensures.bytes in
+    let fits : length numbers.0 + 10 ≤ 42 = omega (arith, numbers.1.size) in
+    ConsumesAtMost-after _ _ _ numbers.0 10 42 numbers.2 c.in-Err.ensures.few fits

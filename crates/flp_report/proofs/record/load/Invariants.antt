@@ -1,4 +1,4 @@
-use Rattle.std.proofs.Common.{◌≡◌, take, length}
+use Rattle.std.proofs.Common.{◌≡◌, take}
 use Rattle.flp_report.specs.Words.{words}
 use Rattle.flp_report.proofs.record.load.Given as goal
 

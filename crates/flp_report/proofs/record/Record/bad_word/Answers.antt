@@ -1,7 +1,7 @@
-use Rattle.std.proofs.Common.{◌≡◌, ◌∙◌, sym, ap, List, ℕ, drop}
+use Rattle.std.proofs.Common.{◌∙◌, sym, ap, List, ℕ, drop}
 use Rattle.std.proofs.lemmas.List.{take_rest}
 use Rattle.flp_report.specs.Words.{words, bad_word_in}
-use Rattle.flp_report.proofs.WordsLemmas.{bad_from-word, bad_from-bad, bad_from-end, bad_from-start}
+use Rattle.flp_report.proofs.WordsLemmas.{bad_from-word, bad_from-bad, bad_from-start}
 use Rattle.flp_report.proofs.record.Record.bad_word.Goals as goal
 
 pub returns-then-number_at-ge-MODULUS : goal.returns-then-number_at-ge-MODULUS
