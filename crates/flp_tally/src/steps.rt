@@ -1,0 +1,90 @@
+//! The single steps on a tally's words. Each function makes one.
+ghost use Rattle.std.specs.Prelude.{◌≡◌, ℕ, ◌+◌, ◌*◌, ◌<◌, ◌≤◌};
+ghost use Rattle.flp_tally.specs.Views.{kept_half, given_half, joined, spent};
+ghost use Rattle.flp_tally.specs.Steps.{Claimed, Peeked, Learned};
+ghost use Rattle.flp_tally.specs.Rule.{blocks, claim_word};
+
+use crate::view::{Shape, Tallied, View};
+use atomic_table::{Join, Play, Shared, Split};
+use std::marker::{Brand, PhantomData};
+
+pub(crate) type Words = Shared<u8, View, Shape, Tallied>;
+
+pub(crate) type Place = atomic_table::Seat<u8, View>;
+
+/// Which number a step is about. Each call picks its own.
+pub trait Numbered {
+    ghost number: { ℕ };
+}
+
+impl Numbered for Brand {
+    ghost number = { 0 };
+}
+
+/// The weight in halves, and the lists with the larger one.
+pub(crate) struct Halves;
+
+impl Split<View> for Halves {
+    ghost left = { kept_half };
+
+    ghost right = { given_half };
+}
+
+/// The weights added and the lists appended.
+pub(crate) struct Together;
+
+impl Join<View> for Together {
+    ghost both = { joined };
+
+    ghost spent = { spent };
+}
+
+pub(crate) struct Learning;
+
+impl Play<u8, View> for Learning {
+    ghost then = { λ s v found w. Learned v.0 w.0 × (w.1 ≡ v.1) };
+}
+
+pub(crate) struct Claiming<N> {
+    number: PhantomData<N>,
+}
+
+impl<N: Numbered> Play<u8, View> for Claiming<N> {
+    ghost then = { λ s v found w. Claimed N.number s.word v.0 found w.0 × (w.1 ≡ v.1) };
+}
+
+pub(crate) struct Peeking<N> {
+    number: PhantomData<N>,
+}
+
+impl<N: Numbered> Play<u8, View> for Peeking<N> {
+    ghost then = { λ s v found w. Peeked N.number s.word v.0 found w.0 × (w.1 ≡ v.1) };
+}
+
+/// Sets the claim bit of a number, and gives the word that was found.
+pub(crate) fn take<N: Numbered>(words: &Words, place: &mut Place, number: u32) -> u64
+    requires number { number ≡ N.number }
+    requires below { number < words.now.key.reports }
+    requires long { words.now.table_id.words ≡ 3 + blocks words.now.key.reports + 2 * words.now.key.elements }
+    requires seat { place.old.table_id ≡ words.now.table_id }
+    requires weight { 1 ≤ place.old.me.0.weight }
+    ensures seat { place.new.table_id ≡ place.old.table_id }
+    ensures claimed { Claimed number (claim_word number) place.old.me.0 result place.new.me.0 }
+    ensures slots { place.new.me.1 ≡ place.old.me.1 }
+{
+    words.fetch_or::<Claiming<N>>(place, 3 + (number / 64) as usize, 1 << (number % 64))
+}
+
+/// Loads the word with the claim bit of a number.
+pub(crate) fn look<N: Numbered>(words: &Words, place: &mut Place, number: u32) -> u64
+    requires number { number ≡ N.number }
+    requires below { number < words.now.key.reports }
+    requires long { words.now.table_id.words ≡ 3 + blocks words.now.key.reports + 2 * words.now.key.elements }
+    requires seat { place.old.table_id ≡ words.now.table_id }
+    requires weight { 1 ≤ place.old.me.0.weight }
+    ensures seat { place.new.table_id ≡ place.old.table_id }
+    ensures peeked { Peeked number (claim_word number) place.old.me.0 result place.new.me.0 }
+    ensures slots { place.new.me.1 ≡ place.old.me.1 }
+{
+    words.load::<Peeking<N>>(place, 3 + (number / 64) as usize)
+}
