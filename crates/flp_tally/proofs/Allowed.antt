@@ -5,15 +5,16 @@ use native.Mathlib.Decide.{ℕ_discrete}
 use lib.Seq.{set-get_or}
 use Rattle.std.specs.Int.{bit_at}
 use Rattle.std.proofs.lemmas.Nat.Bits.{bit_at-lt}
-use lib.ListN.{get_elem?}
-use Rattle.atomic_table.specs.Table.{State, Me, keeps, Allows, Splits, Joins}
+use Rattle.atomic_table.specs.Table.{Me, keeps, Allows, Splits, Joins}
 use Rattle.atomic_table.proofs.Lists.{set_else}
 use Rattle.flp_tally.specs.declared.view.View.{View}
+use Rattle.flp_tally.specs.declared.view.Entry.{Entry}
 use Rattle.flp_tally.specs.declared.view.Shape.{Shape}
-use Rattle.flp_tally.specs.Views.{with_claimed, with_seen, with_missed, kept_half, given_half, joined, spent}
-use Rattle.flp_tally.specs.Rule.{claim_word, claim_bit, Tallies, holds}
-use Rattle.flp_tally.specs.Steps.{Finds, Claimed, Peeked, Learned}
+use Rattle.flp_tally.specs.Views.{with_claimed, with_seen, with_missed, with_entry, times, entries_of, kept_half, given_half, joined, spent}
+use Rattle.flp_tally.specs.Rule.{claim_word, claim_bit, cell_word, Tallies, holds}
+use Rattle.flp_tally.specs.Steps.{Finds, Claimed, Peeked, Added, Learned}
 use Rattle.flp_tally.proofs.Moves.{load_keeps, peek_keeps, claim_keeps, split_keeps, join_keeps}
+use Rattle.flp_tally.proofs.Adding.{add_keeps}
 use Rattle.flp_tally.proofs.Learning.{tells, learned}
 
 -- one view where the bit is clear, and another where it is set
@@ -65,6 +66,21 @@ module _ (shape : Shape) (slots id : ℕ) (me : Me ℕ View) (some_weight : 1 �
     unwritten shape.weight shape.reports shape.elements s.words (set s.views id v) 0 (load_keeps shape.weight shape.reports shape.elements s.words s.views id v k at),
     (learned shape.weight shape.reports shape.elements s.words s.views id v k at some_weight, refl),
   )
+
+pub put_allowed : (shape : Shape) (slots id : ℕ) (me : Me ℕ View) (e d : Entry) (i : ℕ) → 1 ≤ me.0.weight → d ≡ e → i ≡ cell_word shape.reports e.cell → me.0.reports ≡ shape.reports → e.cell < 2 * shape.elements → e.amount < 2 ^ 32
+    → 1 ≤ times e.number me.0.claimed → entries_of e.number e.cell me.0.added ≡ 0
+    → Allows (holds shape) slots id me i (λ n. (n + e.amount) % 2 ^ 64) (λ found w. Added d i e.amount me.0 w.0 × (w.1 ≡ me.1))
+put_allowed shape slots id me e d i some_weight same is reports cell small claimed free s k len at fits = let v = me.0 in (
+  with_entry v e,
+  keeps,
+  tt,
+  subst (λ (z : ℕ). Tallies shape.weight shape.reports shape.elements (set s.words z ((get_or s.words z 0 + e.amount) % 2 ^ 64)) (set s.views id (with_entry v e))) (sym is)
+      (add_keeps shape.weight shape.reports shape.elements s.words s.views id v k at e some_weight cell small claimed free),
+  (
+    subst (λ (z : Entry). Added z i e.amount v (with_entry v e)) (sym same) record { place = is ∙ ap (λ (r : ℕ). cell_word r e.cell) (sym reports); half = refl; after = refl },
+    refl,
+  ),
+)
 
 pub split_allowed : (shape : Shape) (id : ℕ) (v : View) → 2 ≤ v.weight → Splits (holds shape) id v (kept_half v) (given_half v)
 split_allowed shape id v two s k at = split_keeps shape.weight shape.reports shape.elements s.words s.views id v k at (v.weight - v.weight / 2) (v.weight / 2) (omega arith) (omega arith) (omega arith)

@@ -4,3 +4,8 @@ pub mod Lists
 pub mod Moves
 pub mod Learning
 pub mod Allowed
+pub mod Bound
+pub mod Adding
+pub mod Rows
+pub mod Totals
+pub mod StateLaws

@@ -1,5 +1,5 @@
 -- Each kind of step keeps the rule, from any state that meets it.
-use Rattle.std.proofs.Common.{◌≡◌, ℕ, ◌+◌, ◌-◌, ◌*◌, ◌/◌, ◌%◌, ◌^◌, ◌<◌, ◌≤◌, ◌≢◌, List, [], ◌∷◌, ◌++◌, length, get_or, set, sum_by, sym, refl, ap, ◌∙◌, subst, ⊎_elim, arith, length-set}
+use Rattle.std.proofs.Common.{◌≡◌, ℕ, ◌+◌, ◌*◌, ◌<◌, ◌≤◌, ◌≢◌, List, [], ◌∷◌, ◌++◌, length, get_or, set, sym, refl, ap, ◌∙◌, subst, ⊎_elim, arith, length-set}
 use Rattle.std.proofs.lemmas.List.Sums.{sum_by_push}
 use mathlib.Core.Logic.{dite}
 use mathlib.Core.Option.{some}
@@ -7,8 +7,8 @@ use native.Mathlib.Decide.{ℕ_discrete}
 use lib.ListN.{get_elem?}
 use Rattle.atomic_table.proofs.Lists.{at_set, at_snoc, set_else}
 use Rattle.flp_tally.specs.declared.view.View.{View}
-use Rattle.flp_tally.specs.Views.{times, amount_in, Owns, IsIdle, with_claimed, with_seen, with_missed, with_weight, fresh, joined, spent}
-use Rattle.flp_tally.specs.Rule.{blocks, claim_word, claim_bit, cell_word, Fits, claims_of, sum_in, Tallies}
+use Rattle.flp_tally.specs.Views.{times, amount_in, with_claimed, with_seen, with_missed, with_weight, fresh, joined, spent}
+use Rattle.flp_tally.specs.Rule.{blocks, claim_word, claim_bit, cell_word, Fits, Tallies}
 use Rattle.flp_tally.proofs.Sums.{sum_set}
 use Rattle.flp_tally.proofs.Bits.{marked, bit-lt, marked_same, marked_other, marked_word}
 use Rattle.flp_tally.proofs.Lists.{times-append, times_same, times_other, times_le, entries-append, amount-append, fit-append}
@@ -26,7 +26,7 @@ pub record Change (n r m : ℕ) (ws ws' : List ℕ) (v w : View) : Type 0 where
   pub cells : (c : ℕ) → c < 2 * m → get_or ws' (cell_word r c) 0 + amount_in c v.added ≡ get_or ws (cell_word r c) 0 + amount_in c w.added
 
 -- a view still fits where no bit below r was lost
-refits : (n r m : ℕ) (ws ws' : List ℕ) (u : View) → Fits n r m ws u → ((x : ℕ) → x < r → claim_bit ws x ≤ claim_bit ws' x) → Fits n r m ws' u
+pub refits : (n r m : ℕ) (ws ws' : List ℕ) (u : View) → Fits n r m ws u → ((x : ℕ) → x < r → claim_bit ws x ≤ claim_bit ws' x) → Fits n r m ws' u
 refits n r m ws ws' u f more = record {
   numbers = f.numbers;
   idle = f.idle;

@@ -1,6 +1,6 @@
 -- Sums over all views: after a change of one view, and where one view has all the weight.
-use Rattle.std.proofs.Common.{◌≡◌, ℕ, zero, suc, ◌+◌, ◌*◌, ◌<◌, ◌≤◌, List, [], ◌∷◌, ◌++◌, set, sum_by, sym, refl, ap, ◌∙◌, arith}
-use Rattle.std.proofs.lemmas.List.Sums.{sum_by-cons, sum_by-append, sum_by_push}
+use Rattle.std.proofs.Common.{◌≡◌, ℕ, zero, suc, ◌+◌, ◌*◌, ◌≤◌, List, [], ◌∷◌, set, sum_by, sym, refl, ap, ◌∙◌, arith, mul-add}
+use Rattle.std.proofs.lemmas.List.Sums.{sum_by-cons}
 use mathlib.Core.Option.{some, some-injective, some-ne-none}
 use lib.ListN.{get_elem?}
 
@@ -19,7 +19,7 @@ module _ {A : Type 0} where
   pub sum_le : (f g : A → ℕ) (k : ℕ) (vs : List A) → ((i : ℕ) (v : A) → get_elem? vs i ≡ some v → f v ≤ k * g v) → sum_by f vs ≤ k * sum_by g vs
   sum_le f g k [] h = omega arith
   sum_le f g k (x ∷ xs) h = let here = h 0 x refl in let r = sum_le f g k xs (λ i. h (suc i)) in
-      rw (sum_by-cons f x xs, sum_by-cons g x xs, Rattle.std.proofs.Common.mul-add k (g x) (sum_by g xs)) (omega arith)
+      rw (sum_by-cons f x xs, sum_by-cons g x xs, mul-add k (g x) (sum_by g xs)) (omega arith)
 
   -- where the weights are all 0, so is the sum of whatever views of weight 0 lack
   pub sum_none : (weight f : A → ℕ) (vs : List A) → sum_by weight vs ≡ 0 → ((i : ℕ) (v : A) → get_elem? vs i ≡ some v → weight v ≡ 0 → f v ≡ 0) → sum_by f vs ≡ 0

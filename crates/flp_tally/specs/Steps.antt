@@ -2,8 +2,9 @@
 use Rattle.std.specs.Prelude.{◌≡◌, ℕ, ◌+◌, ◌%◌, ◌^◌, ◌<◌, ◌≤◌}
 use Rattle.std.specs.Int.{bit_at}
 use Rattle.flp_tally.specs.declared.view.View.{View}
-use Rattle.flp_tally.specs.Views.{times, NoneTwice, SeenIsClaimed, with_claimed, with_seen, with_missed}
-use Rattle.flp_tally.specs.Rule.{claim_word}
+use Rattle.flp_tally.specs.declared.view.Entry.{Entry}
+use Rattle.flp_tally.specs.Views.{times, NoneTwice, SeenIsClaimed, with_claimed, with_seen, with_missed, with_entry}
+use Rattle.flp_tally.specs.Rule.{claim_word, cell_word}
 
 -- The bit of x is set where the seat has claimed or seen x. It is clear where the seat has all the weight and has not claimed x.
 pub record Tells (v : View) (x bit : ℕ) : Type 0 where
@@ -22,6 +23,12 @@ Claimed x word v found w = Finds x word found v (with_claimed v x) (with_seen v 
 
 abbrev pub Peeked : ℕ → ℕ → View → ℕ → View → Type 0
 Peeked x word v found w = Finds x word found v (with_missed v x) (with_seen v x) w
+
+-- A sum grew by the amount of the entry, in the entry's cell, and the entry joined added.
+pub record Added (e : Entry) (word amount : ℕ) (v w : View) : Type 0 where
+  pub place : word ≡ cell_word v.reports e.cell
+  pub half : amount ≡ e.amount
+  pub after : w ≡ with_entry v e
 
 -- A load of word 0 changes nothing, and shows what the rule says of the view.
 pub record Learned (v w : View) : Type 0 where

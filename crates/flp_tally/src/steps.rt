@@ -1,10 +1,10 @@
 //! The single steps on a tally's words. Each function makes one.
-ghost use Rattle.std.specs.Prelude.{◌≡◌, ℕ, ◌+◌, ◌*◌, ◌<◌, ◌≤◌};
-ghost use Rattle.flp_tally.specs.Views.{kept_half, given_half, joined, spent};
-ghost use Rattle.flp_tally.specs.Steps.{Claimed, Peeked, Learned};
-ghost use Rattle.flp_tally.specs.Rule.{blocks, claim_word};
+ghost use Rattle.std.specs.Prelude.{◌≡◌, ℕ, ◌+◌, ◌*◌, ◌^◌, ◌<◌, ◌≤◌};
+ghost use Rattle.flp_tally.specs.Views.{times, entries_of, kept_half, given_half, joined, spent, with_entry};
+ghost use Rattle.flp_tally.specs.Steps.{Claimed, Peeked, Learned, Added};
+ghost use Rattle.flp_tally.specs.Rule.{blocks, claim_word, cell_word};
 
-use crate::view::{Shape, Tallied, View};
+use crate::view::{Entry, Shape, Tallied, View};
 use atomic_table::{Join, Play, Shared, Split};
 use std::marker::{Brand, PhantomData};
 
@@ -19,6 +19,19 @@ pub trait Numbered {
 
 impl Numbered for Brand {
     ghost number = { 0 };
+}
+
+/// Which entry a step adds. Each call picks its own.
+pub trait Halved {
+    ghost use Rattle.flp_tally.specs.declared.view.Entry.{Entry};
+
+    ghost entry: { Entry };
+}
+
+impl Halved for Brand {
+    ghost use Rattle.flp_tally.specs.Rows.{half};
+
+    ghost entry = { half 0 0 0 };
 }
 
 /// The weight in halves, and the lists with the larger one.
@@ -61,6 +74,14 @@ impl<N: Numbered> Play<u8, View> for Peeking<N> {
     ghost then = { λ s v found w. Peeked N.number s.word v.0 found w.0 × (w.1 ≡ v.1) };
 }
 
+pub(crate) struct Adding<E> {
+    entry: PhantomData<E>,
+}
+
+impl<E: Halved> Play<u8, View> for Adding<E> {
+    ghost then = { λ s v found w. Added E.entry s.word s.first v.0 w.0 × (w.1 ≡ v.1) };
+}
+
 /// Sets the claim bit of a number, and gives the word that was found.
 pub(crate) fn take<N: Numbered>(words: &Words, place: &mut Place, number: u32) -> u64
     requires number { number ≡ N.number }
@@ -87,4 +108,24 @@ pub(crate) fn look<N: Numbered>(words: &Words, place: &mut Place, number: u32) -
     ensures slots { place.new.me.1 ≡ place.old.me.1 }
 {
     words.load::<Peeking<N>>(place, 3 + (number / 64) as usize)
+}
+
+/// Adds an entry to its cell, under a number that the seat has claimed and not yet added to the cell. The words of the
+/// cells begin at `cells`.
+pub(crate) fn put<E: Halved>(words: &Words, place: &mut Place, cells: usize, entry: Entry)
+    requires entry { E.entry ≡ entry }
+    requires cell { entry.cell < 2 * words.now.key.elements }
+    requires cells { cells ≡ cell_word words.now.key.reports 0 }
+    requires small { cells < 2 ^ 32 }
+    requires long { words.now.table_id.words ≡ 3 + blocks words.now.key.reports + 2 * words.now.key.elements }
+    requires seat { place.old.table_id ≡ words.now.table_id }
+    requires weight { 1 ≤ place.old.me.0.weight }
+    requires reports { place.old.me.0.reports ≡ words.now.key.reports }
+    requires claimed { 1 ≤ times entry.number place.old.me.0.claimed }
+    requires free { entries_of entry.number entry.cell place.old.me.0.added ≡ 0 }
+    ensures seat { place.new.table_id ≡ place.old.table_id }
+    ensures added { place.new.me.0 ≡ with_entry place.old.me.0 entry }
+    ensures slots { place.new.me.1 ≡ place.old.me.1 }
+{
+    words.fetch_add::<Adding<E>>(place, cells + entry.cell as usize, entry.amount as u64);
 }

@@ -1,11 +1,15 @@
 //! The tally and its seats.
-ghost use Rattle.std.specs.Prelude.{◌≡◌, ℕ, ◌+◌, ◌*◌, ◌<◌, ◌≤◌, IfOk, IsTrue, IsFalse, [], length};
-ghost use Rattle.flp_tally.specs.Views.{times, NoneTwice, Owns, SeenIsClaimed, first_view, with_claimed, with_seen, with_missed, kept_half, given_half, joined};
+ghost use Rattle.std.specs.Prelude.{◌≡◌, ℕ, ◌+◌, ◌*◌, ◌%◌, ◌^◌, ◌<◌, ◌≤◌, IfOk, IsTrue, IsFalse, [], length};
+ghost use Rattle.flp_tally.specs.Views.{times, NoneTwice, Owns, SeenIsClaimed, first_view, with_claimed, with_seen, with_missed, with_entry, kept_half, given_half, joined, entries_of, NotAdded};
+ghost use Rattle.flp_tally.specs.Rows.{with_row, AreTotals, AreSums};
+ghost use Rattle.flp_tally.specs.Rule.{cell_word};
+ghost use Rattle.flp_field.specs.Word.{modulus};
 ghost use Rattle.flp_tally.specs.Held.{IsSeatOf};
 
-use crate::steps::{Halves, Learning, Place, Together, look, take};
-use crate::view::{Shape, Tallied, View};
+use crate::steps::{Halves, Learning, Place, Together, look, put, take};
+use crate::view::{Entry, Shape, Tallied, View};
 use atomic_table::Table;
+use flp_field::{Fe, MODULUS};
 use std::alloc::{AllocError, Global};
 use std::marker::{Brand, Model};
 
@@ -163,6 +167,91 @@ impl Tally {
             Claim::Mine
         }
     }
+
+    /// Adds the words of a row, each in halves, under a number that this seat has claimed and not yet added.
+    ///
+    /// The row has as many words as the tally has elements.
+    pub fn add(&self, seat: &mut Seat, number: u32, row: &[Fe])
+        requires seat { IsSeatOf self.now seat.old }
+        requires claimed { 1 ≤ times number seat.old.view.claimed }
+        requires once { NotAdded number seat.old.view }
+        requires row { length row.now ≡ self.now.elements }
+        ensures seat { IsSeatOf self.now seat.new }
+        ensures added { seat.new.view ≡ with_row seat.old.view number row.now }
+    {
+        for element in 0..self.shape.elements {
+            let word = row[element as usize].value();
+            self.add_half(
+                seat,
+                Entry {
+                    number,
+                    cell: 2 * element,
+                    amount: (word % 4294967296) as u32,
+                },
+            );
+            self.add_half(
+                seat,
+                Entry {
+                    number,
+                    cell: 2 * element + 1,
+                    amount: (word / 4294967296) as u32,
+                },
+            );
+        }
+    }
+
+    /// Ends the tally, and writes each element's total: the sum of the added rows' words in the field.
+    ///
+    /// There are as many totals as the tally has elements.
+    pub fn close(self, seat: Seat, totals: &mut [Fe])
+        requires seat { IsSeatOf self seat }
+        requires weight { seat.view.weight ≡ seat.view.full }
+        requires totals { length totals.old ≡ self.elements }
+        ensures totals { AreTotals seat.view.added totals.new }
+        ensures sums { AreSums seat.view.added totals.new }
+    {
+        let cells = self.cells();
+        let Tally { table, shape } = self;
+        let Seat { place, weight: _ } = seat;
+        let closed = table.close_with(place);
+        for element in 0..shape.elements as usize {
+            let low = closed.word(cells + 2 * element);
+            let high = closed.word(cells + 2 * element + 1);
+            totals[element] = total(low, high);
+        }
+        closed.free();
+    }
+
+    /// Where the words of the cells begin.
+    fn cells(&self) -> usize
+        ensures place { result ≡ cell_word self.now.reports 0 }
+        ensures small { result < 2 ^ 32 }
+    {
+        3 + (self.shape.reports as usize).div_ceil(64)
+    }
+
+    /// Adds an entry to its cell.
+    fn add_half(&self, seat: &mut Seat, entry: Entry)
+        requires seat { IsSeatOf self.now seat.old }
+        requires cell { entry.cell < 2 * self.now.elements }
+        requires claimed { 1 ≤ times entry.number seat.old.view.claimed }
+        requires free { entries_of entry.number entry.cell seat.old.view.added ≡ 0 }
+        ensures seat { IsSeatOf self.now seat.new }
+        ensures added { seat.new.view ≡ with_entry seat.old.view entry }
+    {
+        put::<Brand>(&self.table.shared, &mut seat.place, self.cells(), entry);
+    }
+}
+
+/// The word of `low + 2^32 * high`.
+fn total(low: u64, high: u64) -> Fe
+    ensures { result ≡ (low + 2 ^ 32 * high) % modulus }
+{
+    let whole = low as u128 + 4294967296 * high as u128;
+    let Some(word) = Fe::new((whole % MODULUS as u128) as u64) else {
+        unreachable!()
+    };
+    word
 }
 
 impl Seat {

@@ -2,7 +2,8 @@
 use atomic_table::TableRule;
 use std::collections::LinkedList;
 
-/// One half of one word of a row, as it was added to a cell. No value of it is made.
+/// One half of one word of a row: an amount of 32 bits for a cell, under the number of the row's report.
+#[derive(Clone, Copy)]
 pub struct Entry {
     pub number: u32,
     pub cell: u32,

@@ -1,7 +1,6 @@
-use Rattle.std.proofs.Common.{rules, arith, ap, sym, ◌∙◌, subst, ℕ, ◌+◌, ◌*◌, ◌≤◌, ◌≡◌, List}
+use Rattle.std.proofs.Common.{rules, arith, ap, sym, ◌∙◌, subst, ℕ, ◌≡◌, List}
 use Rattle.flp_tally.specs.declared.view.View.{View}
 use Rattle.flp_tally.specs.Views.{Owns, NoneTwice, SeenIsClaimed, joined}
-use Rattle.flp_tally.specs.Held.{Held}
 use Rattle.flp_tally.proofs.Allowed.{join_allowed, learn_allowed}
 use Rattle.flp_tally.proofs.Lists.{owns-joined}
 use Rattle.flp_tally.proofs.tally.Tally.join.Goals as goal

@@ -1,7 +1,6 @@
-use Rattle.std.proofs.Common.{◌≡◌, ℕ, ◌+◌, ◌*◌, ◌≤◌, ap, sym, ◌∙◌, refl, rules, subst, arith}
+use Rattle.std.proofs.Common.{◌≡◌, sym, ◌∙◌, refl}
 use Rattle.flp_tally.specs.declared.view.View.{View}
-use Rattle.flp_tally.specs.Held.{Held}
-use Rattle.flp_tally.specs.Views.{Owns, with_claimed, with_seen, with_missed}
+use Rattle.flp_tally.specs.Views.{Owns, with_seen, with_missed}
 use Rattle.flp_tally.specs.Rule.{claim_word}
 use Rattle.flp_tally.proofs.Allowed.{either_way}
 use Rattle.flp_tally.proofs.tally.Tally.peek.Goals as goal

@@ -1,4 +1,4 @@
-use Rattle.std.proofs.Common.{rules, arith, ap, sym, ◌∙◌, subst, ℕ, ◌+◌, ◌*◌, ◌-◌, ◌/◌, ◌≤◌, List}
+use Rattle.std.proofs.Common.{rules, arith, ap, sym, ◌∙◌, subst, ℕ, List}
 use Rattle.flp_tally.specs.declared.view.View.{View}
 use Rattle.flp_tally.specs.Views.{Owns}
 use Rattle.flp_tally.specs.Held.{Held}
