@@ -1,0 +1,4 @@
+pub mod Once
+pub mod Lists
+pub mod Walking
+pub mod Forking

@@ -1,0 +1,4 @@
+pub mod Work
+pub mod Range
+pub mod Walk
+pub mod Fork
