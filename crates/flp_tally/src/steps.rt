@@ -1,5 +1,6 @@
 //! The single steps on a tally's words. Each function makes one.
-ghost use Rattle.std.specs.Prelude.{◌≡◌, ℕ, ◌+◌, ◌*◌, ◌^◌, ◌<◌, ◌≤◌};
+ghost use Rattle.std.specs.Prelude.{◌≡◌, ◌↔◌, ◌%◌, IsTrue, ℕ, ◌+◌, ◌*◌, ◌^◌, ◌<◌, ◌≤◌};
+ghost use Rattle.std.specs.Int.{bit_at};
 ghost use Rattle.flp_tally.specs.Views.{times, entries_of, kept_half, given_half, joined, spent, with_entry};
 ghost use Rattle.flp_tally.specs.Steps.{Claimed, Peeked, Learned, Added};
 ghost use Rattle.flp_tally.specs.Rule.{blocks, claim_word, cell_word};
@@ -108,6 +109,13 @@ pub(crate) fn look<N: Numbered>(words: &Words, place: &mut Place, number: u32) -
     ensures slots { place.new.me.1 ≡ place.old.me.1 }
 {
     words.load::<Peeking<N>>(place, 3 + (number / 64) as usize)
+}
+
+/// Whether the bit of a number is set in its claim word.
+pub(crate) fn is_marked(word: u64, number: u32) -> bool
+    ensures { IsTrue result ↔ (bit_at word (number % 64) ≡ 1) }
+{
+    word >> (number % 64) & 1 == 1
 }
 
 /// Adds an entry to its cell, under a number that the seat has claimed and not yet added to the cell. The words of the

@@ -6,7 +6,7 @@ ghost use Rattle.flp_tally.specs.Rule.{cell_word};
 ghost use Rattle.flp_field.specs.Word.{modulus};
 ghost use Rattle.flp_tally.specs.Held.{IsSeatOf};
 
-use crate::steps::{Halves, Learning, Place, Together, look, put, take};
+use crate::steps::{Halves, Learning, Place, Together, is_marked, look, put, take};
 use crate::view::{Entry, Shape, Tallied, View};
 use atomic_table::Table;
 use flp_field::{Fe, MODULUS};
@@ -145,8 +145,8 @@ impl Tally {
         ensures true_where { 1 ≤ times number seat.old.view.claimed + times number seat.old.view.seen → IsTrue result }
         ensures false_where { seat.old.view.weight ≡ seat.old.view.full → times number seat.old.view.claimed ≡ 0 → IsFalse result }
     {
-        let found = look::<Brand>(&self.table.shared, &mut seat.place, number);
-        found >> (number % 64) & 1 == 1
+        let word = look::<Brand>(&self.table.shared, &mut seat.place, number);
+        is_marked(word, number)
     }
 
     /// Claims a number, which one call alone can do.
@@ -161,7 +161,7 @@ impl Tally {
         ensures owns { Owns seat.old.view }
     {
         let found = take::<Brand>(&self.table.shared, &mut seat.place, number);
-        if found >> (number % 64) & 1 == 1 {
+        if is_marked(found, number) {
             Claim::Taken
         } else {
             Claim::Mine
@@ -262,3 +262,6 @@ impl Seat {
         self.weight
     }
 }
+
+#[cfg(test)]
+mod tests;
