@@ -160,3 +160,6 @@ fn start_of(span: Span, worker: u32) -> u32
 {
     span.lo + ((span.hi - span.lo) as u64 * worker as u64 / span.workers as u64) as u32
 }
+
+#[cfg(test)]
+mod tests;
