@@ -2,3 +2,4 @@ pub mod Work
 pub mod Range
 pub mod Walk
 pub mod Fork
+pub mod Laws

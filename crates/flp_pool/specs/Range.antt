@@ -9,6 +9,10 @@ use Rattle.flp_pool.specs.Work.{rows_of, EachDid}
 abbrev pub once : ℕ → ℕ → ℕ → ℕ
 once lo hi x = cond (nat_le lo x && nat_lt x hi) 1 0
 
+-- each number from lo up to hi stands in the list once, and no other number stands in it
+abbrev pub EachOnce : ℕ → ℕ → List ℕ → Type 0
+EachOnce lo hi xs = (x : ℕ) → times x xs ≡ once lo hi x
+
 -- no number from lo up to hi stands in the list
 abbrev pub LacksRange : ℕ → ℕ → List ℕ → Type 0
 LacksRange lo hi xs = (x : ℕ) → lo ≤ x → x < hi → times x xs ≡ 0
@@ -28,5 +32,5 @@ pub record Ran {S : Type 0} (room : S → ℕ) (done : S → List ℕ) (right : 
   pub seen : List ℕ
   pub did : EachDid room done right before after lists
   pub each_once : (x : ℕ) → sum_by (λ l. times x l) lists ≡ once lo hi x
-  pub claimed_once : (x : ℕ) → times x claimed ≡ once lo hi x
+  pub claimed_once : EachOnce lo hi claimed
   pub view : w ≡ took row_of v claimed seen
