@@ -6,6 +6,7 @@ pub trait Gate: Sync {
 }
 
 /// A gate that nobody watches.
+#[derive(Clone, Copy, Debug)]
 pub struct NoGate;
 
 impl Gate for NoGate {

@@ -17,4 +17,4 @@ pub use laws::{
 };
 pub use std::alloc::AllocError as Memory;
 pub use tally::{Claim, Seat, Tally};
-pub use view::{Entry, Shape, Tallied, View};
+pub use view::{Entry, View};

@@ -14,7 +14,7 @@ pub(crate) type Words = Shared<u8, View, Shape, Tallied>;
 pub(crate) type Place = atomic_table::Seat<u8, View>;
 
 /// Which number a step is about. Each call picks its own.
-pub trait Numbered {
+pub(crate) trait Numbered {
     ghost number: { ℕ };
 }
 
@@ -23,7 +23,7 @@ impl Numbered for Brand {
 }
 
 /// Which entry a step adds. Each call picks its own.
-pub trait Halved {
+pub(crate) trait Halved {
     ghost use Rattle.flp_tally.specs.declared.view.Entry.{Entry};
 
     ghost entry: { Entry };

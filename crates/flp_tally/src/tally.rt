@@ -255,9 +255,11 @@ fn total(low: u64, high: u64) -> Fe
 }
 
 impl Seat {
-    /// The seat's part of the full weight.
+    /// The seat's part of the full weight, at least 1.
     pub fn weight(&self) -> u32
-        ensures { result ≡ self.now.view.weight }
+        ensures weight { result ≡ self.now.view.weight }
+        ensures some { 1 ≤ result }
+        ensures owns { Owns self.now.view }
     {
         self.weight
     }

@@ -24,14 +24,14 @@ pub struct View {
 
 /// The numbers that a tally keeps from its start to its end.
 #[derive(Drop)]
-pub struct Shape {
-    pub weight: u32,
-    pub reports: u32,
-    pub elements: u32,
+pub(crate) struct Shape {
+    pub(crate) weight: u32,
+    pub(crate) reports: u32,
+    pub(crate) elements: u32,
 }
 
 /// The rule over the words and all views. No slot is ever made.
-pub struct Tallied;
+pub(crate) struct Tallied;
 
 impl TableRule<u8, View, Shape> for Tallied {
     ghost use Rattle.flp_tally.specs.Rule.{holds, first};
