@@ -3,3 +3,13 @@
 pub mod Congruence
 -- powers of numbers
 pub mod Powers
+-- a map of n places into n values
+pub mod Pigeons
+-- divisors and primes
+pub mod Divisors
+-- 7 has order p - 1
+pub mod Order
+-- the laws of products
+pub mod ProductLemmas
+-- roots of unity
+pub mod RootsOfUnity

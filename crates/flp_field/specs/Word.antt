@@ -1,5 +1,5 @@
 -- The words of Field64 as numbers below the modulus, and what the arithmetic makes of them. From the modulus up.
-use Rattle.std.specs.Prelude.{ℕ, ◌+◌, ◌-◌, ◌*◌, ◌%◌, ◌^◌, ◌<◌}
+use Rattle.std.specs.Prelude.{ℕ, ◌+◌, ◌-◌, ◌*◌, ◌%◌, ◌^◌, ◌<◌, List, All}
 
 -- 2^64 - 2^32 + 1
 abbrev pub modulus : ℕ
@@ -8,6 +8,10 @@ modulus = 18446744069414584321
 -- a word is a number below the modulus
 abbrev pub IsWord : ℕ → Type 0
 IsWord n = n < modulus
+
+-- each element is a word
+abbrev pub AreWords : List ℕ → Type 0
+AreWords xs = All IsWord xs
 
 abbrev pub word_sum : ℕ → ℕ → ℕ
 word_sum a b = (a + b) % modulus

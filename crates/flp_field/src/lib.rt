@@ -9,6 +9,8 @@
 //! The field is that of the VDAF draft of the IETF, chapter "Finite Fields", where it is Field64.
 #![tactic(auto)]
 
+pub mod laws;
+mod roots;
 mod word;
 
 pub use word::{Fe, MODULUS};

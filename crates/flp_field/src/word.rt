@@ -39,6 +39,11 @@ impl Fe {
     /// The word 1.
     pub const ONE: Fe = Fe { word: 1 };
 
+    /// The word 7^4294967295, whose order is 2^32.
+    pub const GENERATOR: Fe = Fe {
+        word: 1753635133440165772,
+    };
+
     /// The word of this value, or None exactly where the value is at the modulus or above.
     #[inline]
     pub fn new(value: u64) -> Option<Fe>

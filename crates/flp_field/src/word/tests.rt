@@ -66,6 +66,8 @@ fn products(rt: HostRuntime) -> Result<(), Fail> {
         (6, 7, 42),
         (4294967296, 4294967296, 4294967295),
         (281474976710656, 281474976710656, LAST),
+        (9223372036854775808, 8589934592, LAST),
+        (LAST, 2, LAST - 1),
     ] {
         assert_eq!(rt;
             word(left)?.mul(word(right)?).value(),

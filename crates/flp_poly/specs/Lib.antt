@@ -1,0 +1,4 @@
+-- Polynomials as lists of coefficients, from their value up.
+pub mod Polynomial
+-- the laws of their values, degrees and roots
+pub mod PolynomialLaws
