@@ -10,7 +10,7 @@ use Rattle.atomic_table.specs.Table.{State}
 use Rattle.flp_tally.specs.declared.view.View.{View}
 use Rattle.flp_tally.specs.Views.{times}
 use Rattle.flp_tally.specs.Rule.{claim_word, Tallies}
-use Rattle.flp_tally.specs.Kinds.{Keeps, SplitStep, JoinStep, ClaimStep, AddStep, PeekStep, NeverWraps, ClaimedOnce, BitIsClaimed, SeenIsClaimedBySome, AddedOnce}
+use Rattle.flp_tally.specs.Kinds.{Keeps, SplitStep, JoinStep, ClaimStep, AddStep, PeekStep, LearnStep, NeverWraps, ClaimedOnce, BitIsClaimed, SeenIsClaimedBySome, AddedOnce}
 use Rattle.flp_tally.proofs.Sums.{at_le}
 use Rattle.flp_tally.proofs.Bits.{marked, bit-lt}
 use Rattle.flp_tally.proofs.Moves.{split_keeps, join_keeps, claim_keeps, peek_keeps}
@@ -36,6 +36,9 @@ add_law n r m s t k d = arrives n r m t _ _ d.words d.views (add_keeps n r m s.w
 
 pub peek_law : Keeps PeekStep
 peek_law n r m s t k d = arrives n r m t _ _ d.words d.views (peek_keeps n r m s.words s.views d.id d.view k d.at d.number d.weight d.below d.after d.clear d.marked)
+
+pub learn_law : Keeps LearnStep
+learn_law n r m s t k d = arrives n r m t s.words s.views d.words d.views k
 
 pub wraps_law : NeverWraps
 wraps_law n r m s t k d = never_wraps n r m s.words s.views d.id d.view k d.at d.entry d.weight d.cell d.amount d.claimed d.free

@@ -1,4 +1,5 @@
--- The five kinds of step by which words and views change, each as a relation between the state before and the state after.
+-- The kinds of step that the calls take, each as a relation between the state before and the state after. Five change words
+-- or views, and a sixth, by which a joined seat learns what the rule says of it, changes nothing.
 -- Every step is one load, one fetch_or or one fetch_add on one word, by a seat of weight at least 1. Below them: what the rule says.
 use Rattle.std.specs.Prelude.{◌≡◌, ◌≢◌, ℕ, ◌+◌, ◌*◌, ◌%◌, ◌^◌, ◌<◌, ◌≤◌, ◌↔◌, List, [], ◌∷◌, ◌++◌, slice_index, slice_set, bit_or}
 use mathlib.Core.Option.{some}
@@ -74,6 +75,11 @@ pub record PeekStep (n r m : ℕ) (s t : State ℕ View) : Type 0 where
   pub marked : claim_bit s.words number ≡ 1 → after ≡ with_seen view number
   pub words : t.words ≡ s.words
   pub views : t.views ≡ slice_set s.views id after
+
+-- a load of word 0 that changes nothing
+pub record LearnStep (n r m : ℕ) (s t : State ℕ View) : Type 0 where
+  pub words : t.words ≡ s.words
+  pub views : t.views ≡ s.views
 
 -- a kind of step keeps the rule, from any state that meets it
 abbrev pub Keeps : (ℕ → ℕ → ℕ → State ℕ View → State ℕ View → Type 0) → Type 0

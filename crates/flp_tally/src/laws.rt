@@ -1,6 +1,6 @@
 //! What holds in every schedule: each kind of step keeps the rule from any state that meets it, and what the rule says.
 //! Each function's contract is the law; none does anything when it runs.
-ghost use Rattle.flp_tally.specs.Kinds.{Keeps, SplitStep, JoinStep, ClaimStep, AddStep, PeekStep, NeverWraps, ClaimedOnce, BitIsClaimed, SeenIsClaimedBySome, AddedOnce};
+ghost use Rattle.flp_tally.specs.Kinds.{Keeps, SplitStep, JoinStep, ClaimStep, AddStep, PeekStep, LearnStep, NeverWraps, ClaimedOnce, BitIsClaimed, SeenIsClaimedBySome, AddedOnce};
 
 /// A split keeps the rule.
 pub fn split_keeps_the_rule()
@@ -25,6 +25,11 @@ pub fn add_keeps_the_rule()
 /// A look at a claim bit keeps the rule.
 pub fn peek_keeps_the_rule()
     ensures { Keeps PeekStep }
+{}
+
+/// The load by which a joined seat learns keeps the rule.
+pub fn learn_keeps_the_rule()
+    ensures { Keeps LearnStep }
 {}
 
 /// No sum in a cell wraps.
