@@ -9,6 +9,7 @@ use flp_tally::Tally;
 use std::sync::atomic::AtomicU32;
 use std::sync::atomic::Ordering::SeqCst;
 use std::test::Fail;
+use std::thread;
 
 /// Counts how often each worker enters.
 #[derive(Drop)]
@@ -117,6 +118,7 @@ impl Work for Meeting {
                 self.met.fetch_add(1, SeqCst);
                 break;
             }
+            thread::yield_now();
         }
         true
     }
