@@ -1,0 +1,5 @@
+pub mod Once
+pub mod Lists
+pub mod Walking
+pub mod Forking
+pub mod RangeSums

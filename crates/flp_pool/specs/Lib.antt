@@ -1,0 +1,5 @@
+pub mod Work
+pub mod Range
+pub mod Walk
+pub mod Fork
+pub mod Laws

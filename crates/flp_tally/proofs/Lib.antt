@@ -1,0 +1,11 @@
+pub mod Sums
+pub mod Bits
+pub mod Lists
+pub mod Moves
+pub mod Learning
+pub mod Allowed
+pub mod Bound
+pub mod Adding
+pub mod Rows
+pub mod Totals
+pub mod StateLaws
