@@ -1,8 +1,9 @@
 //! The program `flp`: its words, standard streams and exit status around [`flp_cli::run`].
 #![tactic(auto)]
 
-use flp_cli::{NoGate, run};
+use flp_cli::run;
 use flp_io::{ReaderSource, WriterSink, put};
+use flp_pool::NoGate;
 use std::alloc::{AllocError, Global};
 use std::io::{self, ErrorKind};
 use std::process::ExitCode;

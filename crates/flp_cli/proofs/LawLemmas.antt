@@ -47,12 +47,12 @@ has_nonce-found [] (suc i) nonce few has = absurd (omega arith)
 has_nonce-found (r ∷ reports) (suc i) nonce few has =
     let fewer : i ≤ length reports = omega arith in
     ⊎_elim
-        (λ (here : pointwise nat_eq (nonce_in r) nonce ≡ true). let first : 0 < suc i = omega arith in (0, first, (bytes_decides (nonce_in r) nonce).0 here))
-        (λ (other : pointwise nat_eq (nonce_in r) nonce ≡ false).
-            let later = has_nonce-found reports i nonce fewer (rw other at has) in
-            let below : suc later.0 < suc i = omega (arith, later.1) in
-            (suc later.0, below, later.2))
-        (cases_Bool (pointwise nat_eq (nonce_in r) nonce))
+    (λ (here : pointwise nat_eq (nonce_in r) nonce ≡ true). let first : 0 < suc i = omega arith in (0, first, (bytes_decides (nonce_in r) nonce).0 here))
+    (λ (other : pointwise nat_eq (nonce_in r) nonce ≡ false).
+    let later = has_nonce-found reports i nonce fewer (rw other at has) in
+    let below : suc later.0 < suc i = omega (arith, later.1) in
+    (suc later.0, below, later.2))
+    (cases_Bool (pointwise nat_eq (nonce_in r) nonce))
 
 has_nonce-stands : (reports : List (List ℕ)) (i j : ℕ) (nonce : List ℕ) → i ≤ length reports → j < i → nonce_in (get_or reports j []) ≡ nonce → has_nonce (take i reports) nonce ≡ true
 has_nonce-stands reports zero j nonce few below same = absurd (omega arith)
@@ -77,11 +77,11 @@ judges_once reports = record {
       let place = at-place reports i below in (
         λ replayed.
             ⊎_elim
-                (λ (known : has_nonce (take i reports) nonce ≡ true). has_nonce-found reports i nonce few known)
-                (λ (new : has_nonce (take i reports) nonce ≡ false).
-                    let is : verdict_of (report_at reports i) ≡ Replayed = sym (rw new at place) ∙ replayed in
-                    absurd (verdict_by-new (bad_word_of (report_at reports i)) (claim_of (report_at reports i)) is))
-                (cases_Bool (has_nonce (take i reports) nonce)),
+            (λ (known : has_nonce (take i reports) nonce ≡ true). has_nonce-found reports i nonce few known)
+            (λ (new : has_nonce (take i reports) nonce ≡ false).
+            let is : verdict_of (report_at reports i) ≡ Replayed = sym (rw new at place) ∙ replayed in
+            absurd (verdict_by-new (bad_word_of (report_at reports i)) (claim_of (report_at reports i)) is))
+            (cases_Bool (has_nonce (take i reports) nonce)),
         λ earlier. place ∙ ap (λ (b : Bool). if b then Replayed else verdict_of (report_at reports i)) (has_nonce-stands reports i earlier.0 nonce few earlier.1 earlier.2),
       );
 }
@@ -99,6 +99,6 @@ accepts_honest reports i below not_replayed words valid honest =
     let nonce = nonce_in (report_at reports i) in
     let place = at-place reports i below in
     ⊎_elim
-        (λ (known : has_nonce (take i reports) nonce ≡ true). absurd (not_replayed (rw known at place)))
-        (λ (new : has_nonce (take i reports) nonce ≡ false). (rw new at place) ∙ honest-new (report_at reports i) words valid honest)
-        (cases_Bool (has_nonce (take i reports) nonce))
+    (λ (known : has_nonce (take i reports) nonce ≡ true). absurd (not_replayed (rw known at place)))
+    (λ (new : has_nonce (take i reports) nonce ≡ false). (rw new at place) ∙ honest-new (report_at reports i) words valid honest)
+    (cases_Bool (has_nonce (take i reports) nonce))

@@ -19,7 +19,7 @@ verdict_at reports i = slice_index_or (verdicts_of reports) i Replayed
 pub record JudgesOnce (reports : List (List ℕ)) : Type 0 where
   pub each : length (verdicts_of reports) ≡ length reports
   pub first : (i : ℕ) → i < length reports → (verdict_at reports i ≡ Replayed)
-    ↔ ((j : ℕ) × (j < i) × (nonce_in (report_at reports j) ≡ nonce_in (report_at reports i)))
+      ↔ ((j : ℕ) × (j < i) × (nonce_in (report_at reports j) ≡ nonce_in (report_at reports i)))
 
 -- a report that is no replay, whose words are all of the field, whose encoding is valid and whose
 -- proof is honest is accepted, but where its query word lies in the domain

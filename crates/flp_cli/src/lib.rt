@@ -24,7 +24,10 @@ mod verify;
 pub use claim::Claim;
 pub use fault::Fault;
 pub use program::run;
-pub use verdict::{Gate, NoGate, Policy, Verdict};
+pub use verdict::{Policy, Verdict};
+
+/// The gate that each worker passes, which is that of the pool of workers.
+pub use flp_pool::{Gate, NoGate};
 
 /// Want of memory, as std's allocators answer it.
 pub use std::alloc::AllocError as Memory;

@@ -10,9 +10,10 @@ ghost use Rattle.flp_cli.specs.Reply.{WritesText, StopsInText, Verifies, StopsEa
 
 use crate::answers::{is_job, put_fault, status};
 use crate::fault::Fault;
-use crate::verdict::{Gate, Policy};
+use crate::verdict::Policy;
 use crate::verify::verify;
 use flp_io::{Sink, Source, put};
+use flp_pool::Gate;
 use flp_report::ReadFault;
 use std::alloc::Global;
 use std::thread::Threads;

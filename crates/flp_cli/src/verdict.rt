@@ -1,4 +1,4 @@
-//! What is said of each report, and those who are told: release policies and gates.
+//! What is said of each report, and those who are told it: release policies.
 ghost use Rattle.std.specs.Prelude.{◌≡◌, Bool};
 ghost use Rattle.flp_cli.specs.Policy.{Counts, raised, no_more};
 ghost use Rattle.flp_cli.specs.Verdicts.{is_accepted};
@@ -41,19 +41,4 @@ pub trait Policy: Drop {
     /// Whether the aggregate of the verdicts told so far may be released.
     fn release(&self) -> bool
         ensures { result ≡ would self.now no_more };
-}
-
-/// A place that each worker passes before it begins.
-pub trait Gate: Sync {
-    /// Passed by the worker of this number, from 0.
-    fn enter(&self, worker: u32);
-}
-
-/// A gate that every worker passes at once.
-pub struct NoGate;
-
-impl Gate for NoGate {
-    fn enter(&self, worker: u32) {
-        let _worker = worker;
-    }
 }
