@@ -4,6 +4,7 @@ use flp_field::Fe;
 use flp_io::{MemorySink, MemorySource, fill};
 use std::alloc::{AllocError, Global};
 use std::process::Abort;
+use std::sync::Arc;
 use std::sync::atomic::{AtomicU32, Ordering};
 use std::test::Fail;
 use std::thread::Threads;
@@ -68,9 +69,11 @@ fn batch(alloc: Global, reports: &[Report]) -> Result<Vec<u8>, AllocError> {
     Ok(bytes)
 }
 
-// A policy that never allows. It is told and asked nothing yet.
+// A policy that never allows, and counts what it is told and asked.
 #[derive(Drop)]
-struct Never;
+struct Never {
+    heard: Arc<AtomicU32>,
+}
 
 impl Policy for Never {
     ghost use Rattle.std.specs.Prelude.{false};
@@ -79,9 +82,11 @@ impl Policy for Never {
 
     fn tell(&mut self, verdict: Verdict) {
         let _verdict = verdict;
+        self.heard.fetch_add(1, Ordering::SeqCst);
     }
 
     fn release(&self) -> bool {
+        self.heard.fetch_add(1, Ordering::SeqCst);
         false
     }
 }
@@ -99,7 +104,8 @@ impl Gate for Counter {
     }
 }
 
-// Runs the program with a policy that never allows and a gate that nobody enters.
+// Runs the program with a policy that never allows, which is dropped untold, and a gate that nobody
+// enters.
 fn run_on<R: Threads + Sync + Abort>(
     rt: &R,
     alloc: Global,
@@ -112,9 +118,15 @@ fn run_on<R: Threads + Sync + Abort>(
         entered: AtomicU32::new(0),
     };
     let mut policies: Vec<Box<dyn Policy>> = Vec::new(alloc);
-    policies.push(Box::new(alloc, Never)?)?;
+    let heard = Arc::new(alloc, AtomicU32::new(0))?;
+    let policy = Never {
+        heard: heard.clone()?,
+    };
+    policies.push(Box::new(alloc, policy)?)?;
     let status = run(rt, alloc, words, input, output, errors, &gate, policies);
     assert_eq!(rt; gate.entered.load(Ordering::SeqCst), 0);
+    assert_eq!(rt; heard.load(Ordering::SeqCst), 0);
+    assert_eq!(rt; Arc::strong_count(&heard), 1);
     Ok(status)
 }
 
@@ -475,9 +487,13 @@ fn a_claim_a_policy_and_a_gate(rt: HostRuntime) -> Result<(), Fail> {
     let verdict = claim.verdict();
     assert_eq!(rt; verdict, Verdict::Accepted);
     assert!(rt; verdict.is_accepted());
-    let mut policy = Never;
+    let heard = Arc::new(rt.alloc(), AtomicU32::new(0))?;
+    let mut policy = Never {
+        heard: heard.clone()?,
+    };
     policy.tell(verdict);
     assert!(rt; !policy.release());
+    assert_eq!(rt; heard.load(Ordering::SeqCst), 2);
     NoGate.enter(0);
     Ok(())
 }
