@@ -1,12 +1,11 @@
 -- How the reports of a batch add up, one after another.
-use Rattle.std.proofs.Common.{◌≡◌, ◌≢◌, ℕ, ◌+◌, ◌-◌, ◌*◌, ◌<◌, ◌≤◌, Option, Some, None, List, [], ◌∷◌, ◌++◌, length, refl, sym, ap, subst, ◌∙◌, arith, append_assoc, append-nil, length-append}
+use Rattle.std.proofs.Common.{◌≡◌, ◌≢◌, ℕ, ◌+◌, ◌*◌, ◌<◌, ◌≤◌, Option, Some, None, List, [], ◌∷◌, ◌++◌, length, refl, sym, ap, subst, ◌∙◌, arith, append_assoc, append-nil, length-append}
 use Rattle.std.proofs.lemmas.List.Elements.{All-nil, All-push}
 use Rattle.std.specs.Prelude.{IfSome}
-use Rattle.std.specs.List.{concat, All}
+use Rattle.std.specs.List.{concat}
 use Rattle.std.specs.Io.KnownBytes.{Consumes, Appends, Keeps, IsAtEnd}
 use Rattle.std.proofs.KnownBytes.{Consumes-trans, Consumes-nil, Appends-trans, Appends-nil}
 use Rattle.flp_io.specs.Writes.{TakesPrefix}
-use Rattle.flp_io.specs.Reads.{ConsumesSome}
 use Rattle.flp_io.proofs.WriteLemmas.{TakesPrefix-refl, TakesPrefix-whole, TakesPrefix-after}
 use Rattle.flp_report.specs.declared.fault.BatchFault.{BatchFault}
 use Rattle.flp_report.specs.declared.fault.BatchFault.TheVariants.{Truncated, Trailing}

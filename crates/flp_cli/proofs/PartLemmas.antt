@@ -1,5 +1,5 @@
 -- The words of a Count report, from the bytes of its parts.
-use Rattle.std.proofs.Common.{◌≡◌, ℕ, zero, suc, ◌+◌, ◌-◌, ◌*◌, ◌<◌, ◌≤◌, List, [], ◌∷◌, length, get_or, take, drop, Option, Some, None, cond, false, true, refl, sym, ap, subst, ◌∙◌, ⊎_elim, arith, nat_le}
+use Rattle.std.proofs.Common.{◌≡◌, ℕ, zero, suc, ◌+◌, ◌-◌, ◌*◌, ◌<◌, ◌≤◌, List, get_or, take, drop, Some, None, false, true, refl, sym, ap, subst, ◌∙◌, ⊎_elim, arith, nat_le}
 use Rattle.std.proofs.lemmas.Bool.{cases_Bool, leb-false}
 use Rattle.std.proofs.lemmas.List.{drop-drop, drop-take}
 use Rattle.std.proofs.lemmas.List.Elements.{All-from_get_or}
@@ -11,7 +11,7 @@ use Rattle.flp_field.specs.Word.{modulus, IsWord}
 use Rattle.flp_report.specs.declared.shape.Shape.{Shape}
 use Rattle.flp_report.specs.Shape.{part_of as part_length, words_of, IsCountShape}
 use Rattle.flp_report.specs.Record.{share_in, query_in}
-use Rattle.flp_report.specs.Words.{words, bad_word_in}
+use Rattle.flp_report.specs.Words.{words}
 use Rattle.flp_report.proofs.WordsLemmas.{get_or-words, length-words}
 use Rattle.flp_cli.specs.Verdicts.{word_of, part_of, bad_word_of}
 

@@ -1,16 +1,16 @@
 -- One report more: its verdict, and what is kept behind it.
-use Rattle.std.proofs.Common.{◌≡◌, ℕ, ◌+◌, List, [], ◌∷◌, ◌++◌, Bool, true, false, not, ◌||◌, nat_eq, cond, refl, sym, ap, subst, ◌∙◌, arith}
+use Rattle.std.proofs.Common.{◌≡◌, ℕ, ◌+◌, List, [], ◌∷◌, ◌++◌, Bool, true, false, not, ◌||◌, nat_eq, cond, refl, sym, ap, ◌∙◌, arith}
 use Rattle.std.specs.Prelude.{if◌then◌else◌}
 use Rattle.std.specs.Ordering.{nat_cmp, is_eq, eq_by_cmp}
 use Rattle.std.specs.Cmp.Lexicographic.{pointwise, slice_cmp, lists_ties}
-use Rattle.std.specs.BTreeSet.{contains, BTreeSet}
+use Rattle.std.specs.BTreeSet.{contains}
 use Rattle.std.proofs.lemmas.Bool.Decides.{nat_tests}
 use Rattle.flp_field.specs.Word.{word_sum}
 use Rattle.flp_report.specs.Record.{nonce_in}
 use Rattle.flp_cli.specs.declared.progress.Progress.{Progress}
 use Rattle.flp_cli.specs.declared.verdict.Verdict.{Verdict}
 use Rattle.flp_cli.specs.declared.verdict.Verdict.TheVariants.{Replayed}
-use Rattle.flp_cli.specs.Verdicts.{Judged, judged, judged_after, has_nonce, verdict_of, verdict_after, is_accepted, number_if, count_of, aggregate_of}
+use Rattle.flp_cli.specs.Verdicts.{judged, judged_after, has_nonce, verdict_of, verdict_after, is_accepted, number_if, count_of, aggregate_of}
 use Rattle.flp_cli.specs.Progress.{Follows}
 use Rattle.flp_cli.proofs.JudgedLemmas.{judged_more, has_nonce_more, count_of_more, aggregate_of_more}
 

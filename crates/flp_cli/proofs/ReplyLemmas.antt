@@ -1,27 +1,25 @@
 -- From the head and what came behind it to the whole input.
-use Rattle.std.proofs.Common.{◌≡◌, ◌≢◌, ℕ, ◌+◌, ◌*◌, ◌<◌, ◌≤◌, Option, Some, None, List, [], ◌∷◌, ◌++◌, Result, Ok, Err, length, Bool, refl, sym, ap, subst, ◌∙◌, arith, append_assoc, append-nil, length-append}
+use Rattle.std.proofs.Common.{◌≡◌, ℕ, ◌+◌, ◌*◌, ◌<◌, Option, Some, None, List, [], ◌∷◌, ◌++◌, length, Bool, refl, sym, ap, subst, ◌∙◌, arith, append_assoc, append-nil}
 use Rattle.std.specs.Prelude.{IfSome}
-use Rattle.std.specs.List.{concat, All, flat_map}
-use Rattle.std.specs.Io.KnownBytes.{Consumes, Appends, IsAtEnd}
+use Rattle.std.specs.List.{concat}
+use Rattle.std.specs.Io.KnownBytes.{Consumes, Appends}
 use Rattle.std.proofs.KnownBytes.{Consumes-trans}
 use Rattle.std.proofs.lemmas.List.Concat.{flat_map-append}
 use Rattle.flp_io.specs.Reads.{ConsumesSome}
 use Rattle.flp_io.specs.Writes.{TakesPrefix}
 use Rattle.flp_io.proofs.WriteLemmas.{TakesPrefix-more, TakesPrefix-refl}
-use Rattle.flp_report.specs.Batch.{fault_of, whole_records, IsHead}
+use Rattle.flp_report.specs.Batch.{fault_of, IsHead}
 use Rattle.flp_report.specs.declared.fault.ReadFault.{ReadFault}
 use Rattle.flp_report.specs.declared.fault.ReadFault.TheVariants as read
 use Rattle.flp_report.specs.declared.fault.BatchFault.{BatchFault}
-use Rattle.flp_report.specs.declared.fault.BatchFault.TheVariants.{Truncated, Trailing}
-use Rattle.flp_report.proofs.KnownLemmas.{IfSome-before}
+use Rattle.flp_report.specs.declared.fault.BatchFault.TheVariants.{Truncated}
 use Rattle.flp_report.proofs.RecordsLemmas.{length-concat, fault_of-cut, fault_of-trailing, fault_of-none, whole_records-front, whole_records-all}
-use Rattle.flp_cli.specs.declared.fault.Fault.{Fault}
 use Rattle.flp_cli.specs.declared.fault.Fault.TheVariants as fault
 use Rattle.flp_cli.specs.Fault.{fault_from}
 use Rattle.flp_cli.specs.Policy.{Counts}
 use Rattle.flp_cli.specs.Verdicts.{Judged, judged, judged_from, judged_after}
 use Rattle.flp_cli.specs.Text.{line_of, lines_of, text_of}
-use Rattle.flp_cli.specs.Engine.{IsWhole, Stops, Finishes, StopsAfter, EndsWithin, GoesOn}
+use Rattle.flp_cli.specs.Engine.{Stops, Finishes, StopsAfter, EndsWithin, GoesOn}
 use Rattle.flp_cli.specs.Reply.{WritesText, StopsInText, Verifies, StopsEarly, StopsLate}
 
 -- the verdicts on some reports stand first among those on more

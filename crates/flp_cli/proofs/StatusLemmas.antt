@@ -1,8 +1,7 @@
 -- Which fault a status came from, and which status the bytes of the input decide.
-use Rattle.std.proofs.Common.{◌≡◌, ℕ, ◌+◌, ◌++◌, Option, Some, None, List, [], Result, Ok, Err, refl, sym, ap, subst, ◌∙◌, inl, inr, ◌⊎◌, arith, rules, append-nil}
+use Rattle.std.proofs.Common.{◌≡◌, ℕ, ◌++◌, Option, Some, None, List, [], refl, sym, ap, subst, ◌∙◌, inl, inr, ◌⊎◌, arith, rules, append-nil}
 use Rattle.std.specs.Prelude.{IfSome, IsTrue}
-use Rattle.std.specs.Io.KnownBytes.{Consumes, Appends, Keeps, IsAtEnd}
-use Rattle.flp_report.specs.declared.fault.ReadFault.{ReadFault}
+use Rattle.std.specs.Io.KnownBytes.{Appends, Keeps}
 use Rattle.flp_report.specs.declared.fault.ReadFault.TheVariants as read
 use Rattle.flp_report.specs.declared.fault.BatchFault.{BatchFault}
 use Rattle.flp_report.specs.Batch.{fault_of}

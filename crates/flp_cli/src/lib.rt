@@ -16,6 +16,8 @@ mod claim;
 mod fault;
 mod program;
 mod progress;
+#[cfg(test)]
+mod tests;
 mod text;
 mod unshare;
 mod verdict;

@@ -1,4 +1,4 @@
-use Rattle.std.proofs.Common.{◌≡◌, ◌∙◌, ℕ, Err, inl, inr, sym, ap, subst}
+use Rattle.std.proofs.Common.{◌∙◌, ℕ, Err, inr, sym, ap, subst}
 use Rattle.std.specs.Prelude.{IsTrue}
 use Rattle.std.specs.Io.KnownBytes.{Appends}
 use Rattle.flp_cli.specs.declared.fault.Fault.{Fault}

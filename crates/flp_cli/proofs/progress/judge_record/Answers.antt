@@ -1,6 +1,5 @@
-use Rattle.std.proofs.Common.{◌≡◌, ◌∙◌, Option, ℕ, sym, ap}
+use Rattle.std.proofs.Common.{◌∙◌, Option, ℕ, sym, ap}
 use Rattle.flp_report.specs.Record.{record_of}
-use Rattle.flp_cli.specs.declared.claim.Claim.{Claim}
 use Rattle.flp_cli.specs.Count.{verdict_on}
 use Rattle.flp_cli.specs.Verdicts.{verdict_by, claim_of}
 use Rattle.flp_cli.proofs.progress.judge_record.Goals as goal

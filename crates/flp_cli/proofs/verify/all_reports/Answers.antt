@@ -1,6 +1,6 @@
-use Rattle.std.proofs.Common.{◌≡◌, ◌∙◌, ◌+◌, ◌*◌, ◌<◌, ◌≤◌, ℕ, rules, arith, sym, ap, subst, ⊎_elim}
-use Rattle.flp_report.specs.Reader.{source_of, place_of, size_of_file, reports_given, reports_left}
-use Rattle.flp_cli.specs.Engine.{StopsBefore, StopsWithin, EndsWithin}
+use Rattle.std.proofs.Common.{◌≡◌, ◌∙◌, ◌+◌, ◌*◌, ◌<◌, ◌≤◌, ℕ, rules, arith, ap, subst, ⊎_elim}
+use Rattle.flp_report.specs.Reader.{source_of, place_of}
+use Rattle.flp_cli.specs.Engine.{EndsWithin}
 use Rattle.flp_cli.proofs.OutcomeLemmas.{OnErr-always}
 use Rattle.flp_cli.proofs.EngineLemmas.{Judges-more, Stops-none, Stops-before, Stops-within, EndsWithin-after}
 use Rattle.flp_cli.proofs.verify.all_reports.Goals as goal

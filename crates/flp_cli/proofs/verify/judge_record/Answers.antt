@@ -1,4 +1,4 @@
-use Rattle.std.proofs.Common.{◌≡◌, ◌∙◌, ◌++◌, List, ℕ, codes, ap}
+use Rattle.std.proofs.Common.{◌∙◌, ◌++◌, List, ℕ, codes, ap}
 use Rattle.hex.specs.Hex.{encode_lower}
 use Rattle.flp_report.specs.Record.{nonce_in}
 use Rattle.flp_report.specs.Segment.{record_in}

@@ -1,13 +1,9 @@
-use Rattle.std.proofs.Common.{◌≡◌, ◌∙◌, ◌≤◌, ℕ, Ok, Err, Result, arith, sym, ap, inl, inr, ⊎_elim}
-use Rattle.std.specs.Prelude.{OnErr, IfSome}
-use Rattle.std.specs.Io.KnownBytes.{Keeps}
+use Rattle.std.proofs.Common.{◌≡◌, ◌∙◌, ◌≤◌, arith, ap, inl, inr, ⊎_elim}
 use Rattle.std.proofs.KnownBytes.{Keeps-refl}
-use Rattle.flp_report.specs.Reader.{source_of}
 use Rattle.flp_report.specs.declared.fault.ReadFault.TheVariants as read
 use Rattle.flp_report.specs.declared.fault.BatchFault.TheVariants.{Trailing}
 use Rattle.flp_cli.specs.declared.fault.Fault.TheVariants.{Read, Batch}
 use Rattle.flp_cli.specs.Fault.{fault_from}
-use Rattle.flp_cli.specs.Engine.{StopsBefore}
 use Rattle.flp_cli.proofs.OutcomeLemmas.{OnErr-both}
 use Rattle.flp_cli.proofs.EngineLemmas.{Stops-before, StopsAfter-from, StopsBefore-kept, GoesOn-after}
 use Rattle.flp_cli.proofs.verify.reports_and_ending.Goals as goal

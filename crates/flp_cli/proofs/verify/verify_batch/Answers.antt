@@ -1,4 +1,4 @@
-use Rattle.std.proofs.Common.{◌≡◌, ℕ, inl, inr, ⊎_elim}
+use Rattle.std.proofs.Common.{inl, inr, ⊎_elim}
 use Rattle.flp_cli.proofs.OutcomeLemmas.{OnOk-map, OnErr-map}
 use Rattle.flp_cli.proofs.ReplyLemmas.{WritesText-behind, StopsEarly-behind, StopsInText-behind, refused-cut, refused-trailing}
 use Rattle.flp_cli.proofs.verify.verify_batch.Goals as goal

@@ -1,9 +1,9 @@
-use Rattle.std.proofs.Common.{◌≡◌, ◌+◌, ◌∙◌, ℕ, List, Bool, true, cond, sym, ap}
+use Rattle.std.proofs.Common.{◌+◌, ◌∙◌, ℕ, List, true, cond, ap}
 use Rattle.std.specs.Ordering.{nat_cmp, is_eq}
 use Rattle.std.specs.Cmp.Lexicographic.{slice_cmp}
 use Rattle.std.specs.BTreeSet.{contains}
 use Rattle.flp_field.specs.Word.{word_sum}
-use Rattle.flp_report.specs.Record.{record_of, nonce_in}
+use Rattle.flp_report.specs.Record.{record_of}
 use Rattle.flp_cli.specs.Verdicts.{has_nonce}
 use Rattle.flp_cli.proofs.ProgressLemmas.{verdict_after-new, Follows-more}
 use Rattle.flp_cli.proofs.progress.Progress.judge.Goals as goal
