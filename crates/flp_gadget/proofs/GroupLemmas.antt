@@ -1,11 +1,12 @@
 -- Groups of one size, one after another, and sums over them.
-use Rattle.std.proofs.Common.{ℕ, zero, suc, ◌≡◌, ◌+◌, ◌-◌, ◌*◌, ◌%◌, List, [], ◌∷◌, ◌++◌, map, take, drop, arith, ap, ap₂, sym, ◌∙◌, refl, add-one}
+use Rattle.std.proofs.Common.{ℕ, zero, suc, ◌≡◌, ◌+◌, ◌-◌, ◌*◌, ◌%◌, ◌≤◌, length, List, [], ◌∷◌, ◌++◌, map, take, drop, arith, ap, ap₂, sym, ◌∙◌, refl, add-one}
 use Rattle.std.specs.List.{sum}
-use Rattle.std.proofs.lemmas.List.{drop-drop, map_push}
-use Rattle.std.proofs.lemmas.List.Sums.{sum_by_push}
+use Rattle.std.proofs.lemmas.List.{drop-drop, map_push, map-append, take-take, drop-take, length-take, length-drop}
+use Rattle.std.proofs.lemmas.List.Sums.{sum_by_push, sum_by-append}
 use Rattle.flp_field.specs.Word.{modulus}
 use Rattle.flp_field.proofs.Congruence.{same_add, same_mod}
 use Rattle.flp_gadget.specs.Formulas.{groups, sum_over_groups}
+use Rattle.flp_gadget.specs.LawProofs.{sum-more}
 
 -- where the group with this number begins
 abbrev pub group_at : {A : Type 0} → ℕ → ℕ → List A → List A
@@ -46,3 +47,61 @@ sum_over_groups-step value size n xs a s v same before here =
     (here ∙ ap (λ (k : ℕ). value (take k (drop (n * a) xs))) long
     ∙ ap (λ (k : ℕ). value (take k (drop (n * k) xs))) same)
     ∙ sum_over_groups-more value size n xs
+
+-- ---- groups of groups
+
+pub groups-add : {A : Type 0} (size n k : ℕ) (xs : List A)
+    → groups size (n + k) xs ≡ groups size n xs ++ groups size k (drop (n * size) xs)
+groups-add size zero k xs =
+    let front : 0 ≡ 0 * size = omega arith in
+    let all : 0 + k ≡ k = omega arith in
+    ap (λ m. groups size m xs) all ∙ ap (λ m. groups size k (drop m xs)) front
+groups-add size (suc n) k xs =
+    let more : suc n + k ≡ suc (n + k) = omega arith in
+    ap (λ m. groups size m xs) more
+    ∙ ap (λ l. take size xs ∷ l) (groups-add size n k (drop size xs))
+    ∙ ap (λ l. take size xs ∷ (groups size n (drop size xs) ++ groups size k l))
+    (drop-drop (n * size) size xs ∙ ap (λ m. drop m xs) (begins size n))
+
+-- what is not in the groups does not matter
+pub groups-take : {A : Type 0} (size n : ℕ) (xs : List A) → groups size n (take (n * size) xs) ≡ groups size n xs
+groups-take size zero xs = refl
+groups-take size (suc n) xs =
+    let within : size ≤ suc n * size = omega arith in
+    ap₂ (λ g l. g ∷ groups size n l) (take-take size (suc n * size) xs within)
+    (ap (λ m. drop size (take m xs)) (sym (begins size n)) ∙ drop-take size (n * size) xs)
+    ∙ ap (λ l. take size xs ∷ l) (groups-take size n (drop size xs))
+
+-- two sums of groups, one after the other
+joined : (value : List ℕ → ℕ) (size n k : ℕ) (xs : List ℕ)
+    → (sum_over_groups value size n xs + sum_over_groups value size k (drop (n * size) xs)) % modulus
+    ≡ sum_over_groups value size (n + k) xs
+joined value size n k xs =
+    same_add (sum_over_groups value size n xs) (sum (map value (groups size n xs)))
+    (sum_over_groups value size k (drop (n * size) xs)) (sum (map value (groups size k (drop (n * size) xs))))
+    (same_mod (sum (map value (groups size n xs)))) (same_mod (sum (map value (groups size k (drop (n * size) xs)))))
+    ∙ ap (λ k. k % modulus)
+    (sym (sum_by-append (λ x. x) (map value (groups size n xs)) (map value (groups size k (drop (n * size) xs))))
+    ∙ ap sum
+    (sym (map-append value (groups size n xs) (groups size k (drop (n * size) xs)))
+    ∙ ap (map value) (sym (groups-add size n k xs))))
+
+-- where each group is summed over n groups of its own, all are
+pub sum_over_groups-nested : (value whole : List ℕ → ℕ) (size n : ℕ)
+    → ((ys : List ℕ) → length ys ≡ n * size → whole ys ≡ sum_over_groups value size n ys) → (m : ℕ) (xs : List ℕ)
+    → length xs ≡ m * (n * size) → sum_over_groups whole (n * size) m xs ≡ sum_over_groups value size (m * n) xs
+sum_over_groups-nested value whole size n same zero xs fits =
+    let none : 0 ≡ 0 * n = omega arith in ap (λ k. sum_over_groups value size k xs) none
+sum_over_groups-nested value whole size n same (suc m) xs fits =
+    let all : length xs ≡ n * size + m * (n * size) = fits ∙ sym (begins (n * size) m) in
+    let front : length (take (n * size) xs) ≡ n * size = length-take (n * size) xs ∙ (omega arith) in
+    let back : length (drop (n * size) xs) ≡ m * (n * size) = length-drop (n * size) xs ∙ (omega arith) in
+    let first : whole (take (n * size) xs) ≡ sum_over_groups value size n xs =
+    same (take (n * size) xs) front ∙ ap (λ l. sum (map value l) % modulus) (groups-take size n xs) in
+    let rest : sum_over_groups whole (n * size) m (drop (n * size) xs)
+    ≡ sum_over_groups value size (m * n) (drop (n * size) xs) =
+    sum_over_groups-nested value whole size n same m (drop (n * size) xs) back in
+    sym (sum-more (whole (take (n * size) xs)) (map whole (groups (n * size) m (drop (n * size) xs))))
+    ∙ ap₂ (λ (a b : ℕ). (a + b) % modulus) first rest
+    ∙ joined value size n (m * n) xs
+    ∙ ap (λ k. sum_over_groups value size k xs) (begins n m)

@@ -129,7 +129,7 @@ rest_fits a count ps size =
     let whole : length ps ≡ a + count * a = size ∙ (omega arith) in
     omega arith
 
-sum-more : (x : ℕ) (xs : List ℕ) → (x + sum xs % modulus) % modulus ≡ sum (x ∷ xs) % modulus
+pub sum-more : (x : ℕ) (xs : List ℕ) → (x + sum xs % modulus) % modulus ≡ sum (x ∷ xs) % modulus
 sum-more x xs =
     same_add x x (sum xs % modulus) (sum xs) refl (same_mod (sum xs))
     ∙ ap (λ (n : ℕ). n % modulus) (sym (sum_by-cons (λ (n : ℕ). n) x xs))
@@ -164,7 +164,7 @@ module _ (arity : ℕ) (value : List ℕ → ℕ) (formula : List (List ℕ) →
     degrees = degrees_over_groups degree law.degrees count;
   }
 
-positive_product : (a b : ℕ) → 1 ≤ a → 1 ≤ b → 1 ≤ a * b
+pub positive_product : (a b : ℕ) → 1 ≤ a → 1 ≤ b → 1 ≤ a * b
 positive_product a b some_a some_b =
     let step : 1 * 1 ≤ a * b = mul-le-mul some_a some_b in omega arith
 
