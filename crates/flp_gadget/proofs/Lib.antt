@@ -5,3 +5,5 @@ pub mod GroupLemmas
 pub mod FlatLemmas
 -- the text of steps by which a kind is made
 pub mod TextLemmas
+-- the coefficients of a kind's formula
+pub mod FormulaLemmas

@@ -117,13 +117,13 @@ limits_of_poly cs some few = record {
 
 -- ---- sums over groups
 
-group_fits : (a count : ℕ) (ps : List (List ℕ)) → length ps ≡ suc count * a → length (take a ps) ≡ a
+pub group_fits : (a count : ℕ) (ps : List (List ℕ)) → length ps ≡ suc count * a → length (take a ps) ≡ a
 group_fits a count ps size =
     let front : length (take a ps) ≡ min a (length ps) = length-take a ps in
     let whole : length ps ≡ a + count * a = size ∙ (omega arith) in
     omega arith
 
-rest_fits : (a count : ℕ) (ps : List (List ℕ)) → length ps ≡ suc count * a → length (drop a ps) ≡ count * a
+pub rest_fits : (a count : ℕ) (ps : List (List ℕ)) → length ps ≡ suc count * a → length (drop a ps) ≡ count * a
 rest_fits a count ps size =
     let back : length (drop a ps) ≡ length ps - a = length-drop a ps in
     let whole : length ps ≡ a + count * a = size ∙ (omega arith) in

@@ -12,3 +12,5 @@ pub mod FlatKind
 pub mod KindProofs
 -- the text of steps by which a kind is made
 pub mod KindText
+-- what the values and the formulas of a kind are made of
+pub mod FormulaLaws

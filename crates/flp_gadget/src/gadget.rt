@@ -29,7 +29,8 @@ pub trait Gadget {
     /// The degree, 1 to 8: at inputs that are polynomials of degree at most d, the result has degree at
     /// most d times this.
     fn degree(&self) -> usize
-        ensures { result ≡ degree self.now };
+        ensures number { result ≡ degree self.now }
+        ensures valid { valid self.now };
 
     /// The value at these inputs, as many as the arity.
     fn eval(&self, inputs: &[Fe]) -> Fe

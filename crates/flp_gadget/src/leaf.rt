@@ -6,7 +6,7 @@ use flp_field::Fe;
 
 /// The gadget that a kind applies to each of its groups of inputs.
 #[derive(Debug, Drop)]
-pub enum Leaf {
+pub(crate) enum Leaf {
     Product,
     Polynomial(PolyEval),
 }

@@ -19,6 +19,7 @@
 mod gadget;
 mod kind;
 mod kind_step;
+pub mod laws;
 mod leaf;
 mod mul;
 mod parallel_sum;
