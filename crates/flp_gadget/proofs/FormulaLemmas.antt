@@ -1,5 +1,5 @@
 -- The coefficients of a kind's formula: how many there are, and that they are words.
-use Rattle.std.proofs.Common.{ℕ, zero, suc, max, min, ◌≡◌, ◌+◌, ◌-◌, ◌*◌, ◌%◌, ◌<◌, ◌≤◌, List, [], ◌∷◌, map, length, get_or, take, drop, arith, ap, ap₂, sym, subst, ◌∙◌, refl, length-take, length-drop}
+use Rattle.std.proofs.Common.{ℕ, zero, suc, max, min, ◌≡◌, ◌+◌, ◌-◌, ◌*◌, ◌<◌, ◌≤◌, List, [], ◌∷◌, length, get_or, take, drop, arith, ap, ap₂, sym, subst, ◌∙◌}
 use Rattle.std.specs.List.{All}
 use Rattle.std.proofs.lemmas.List.{get_or_default}
 use Rattle.std.proofs.lemmas.List.Elements.{All-take, All-drop}
@@ -7,7 +7,7 @@ use Rattle.flp_field.specs.Word.{modulus, AreWords}
 use Rattle.flp_field.proofs.Congruence.{mod_word}
 use Rattle.flp_poly.specs.Polynomial.{poly_sum, poly_product}
 use Rattle.flp_poly.proofs.Products.{length-poly_sum, length-poly_product, get_or-poly_sum, get_or-poly_product}
-use Rattle.flp_gadget.specs.Formulas.{nested, composed, poly_total, groups, total_over_groups}
+use Rattle.flp_gadget.specs.Formulas.{nested, composed, total_over_groups}
 use Rattle.flp_gadget.specs.LawProofs.{group_fits, rest_fits}
 use Rattle.flp_gadget.specs.KindTree.{KindTree, Mul, Poly, Psum, arity_of, degree_of, formula_of, HasParts, IsKind}
 

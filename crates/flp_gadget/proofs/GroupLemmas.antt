@@ -1,5 +1,5 @@
 -- Groups of one size, one after another, and sums over them.
-use Rattle.std.proofs.Common.{ℕ, zero, suc, ◌≡◌, ◌+◌, ◌-◌, ◌*◌, ◌%◌, ◌≤◌, length, List, [], ◌∷◌, ◌++◌, map, take, drop, arith, ap, ap₂, sym, ◌∙◌, refl, add-one}
+use Rattle.std.proofs.Common.{ℕ, zero, suc, ◌≡◌, ◌+◌, ◌-◌, ◌*◌, ◌%◌, ◌<◌, ◌≤◌, length, get_or, List, [], ◌∷◌, ◌++◌, map, take, drop, arith, ap, ap₂, sym, ◌∙◌, refl, add-one}
 use Rattle.std.specs.List.{sum}
 use Rattle.std.proofs.lemmas.List.{drop-drop, map_push, map-append, take-take, drop-take, length-take, length-drop}
 use Rattle.std.proofs.lemmas.List.Sums.{sum_by_push, sum_by-append}
@@ -47,6 +47,11 @@ sum_over_groups-step value size n xs a s v same before here =
     (here ∙ ap (λ (k : ℕ). value (take k (drop (n * a) xs))) long
     ∙ ap (λ (k : ℕ). value (take k (drop (n * k) xs))) same)
     ∙ sum_over_groups-more value size n xs
+
+-- all groups were met
+pub sum_over_groups-all : (value : List ℕ → ℕ) (size i count : ℕ) (xs : List ℕ) (s : ℕ)
+    → s ≡ sum_over_groups value size i xs → i ≡ count → s ≡ sum_over_groups value size count xs
+sum_over_groups-all value size i count xs s so_far done = so_far ∙ ap (λ k. sum_over_groups value size k xs) done
 
 -- ---- groups of groups
 
@@ -105,3 +110,26 @@ sum_over_groups-nested value whole size n same (suc m) xs fits =
     ∙ ap₂ (λ (a b : ℕ). (a + b) % modulus) first rest
     ∙ joined value size n (m * n) xs
     ∙ ap (λ k. sum_over_groups value size k xs) (begins n m)
+
+-- ---- groups by their number
+
+pub length-groups : {A : Type 0} (size count : ℕ) (xs : List A) → length (groups size count xs) ≡ count
+length-groups size zero xs = refl
+length-groups size (suc count) xs = ap suc (length-groups size count (drop size xs))
+
+pub get_or-groups : {A : Type 0} (size count : ℕ) (xs : List A) (i : ℕ) (d : List A) → i < count
+    → get_or (groups size count xs) i d ≡ group_at size i xs
+get_or-groups size zero xs i d inside = absurd (omega arith)
+get_or-groups size (suc count) xs zero d inside =
+    let front : 0 ≡ 0 * size = omega arith in
+    ap (λ k. take size (drop k xs)) front
+get_or-groups size (suc count) xs (suc i) d inside =
+    get_or-groups size count (drop size xs) i d (omega arith)
+    ∙ ap (take size) (drop-drop (i * size) size xs ∙ ap (λ k. drop k xs) (begins size i))
+
+-- the first group apart
+pub sum_over_groups-first : (value : List ℕ → ℕ) (size count : ℕ) (xs : List ℕ)
+    → sum_over_groups value size (suc count) xs
+    ≡ (value (take size xs) + sum_over_groups value size count (drop size xs)) % modulus
+sum_over_groups-first value size count xs =
+    sym (sum-more (value (take size xs)) (map value (groups size count (drop size xs))))

@@ -13,8 +13,8 @@ pub struct ParallelSum<G: Gadget> {
     pub sub: G,
     /// The number of groups, 1 or more; all groups together have at most 1,024 inputs.
     pub count: u32,
-    ghost some: { 1 ≤ count },
-    ghost few: { count * G.arity sub ≤ 1024 },
+    pub ghost some: { 1 ≤ count },
+    pub ghost few: { count * G.arity sub ≤ 1024 },
 }
 
 impl<G: Gadget> Gadget for ParallelSum<G> {

@@ -11,8 +11,8 @@ use flp_list::List;
 pub struct PolyEval {
     /// The coefficients, lowest first: 2 to 9 of them.
     pub coeffs: List<Fe>,
-    ghost some: { 2 ≤ length coeffs },
-    ghost few: { length coeffs ≤ 9 },
+    pub ghost some: { 2 ≤ length coeffs },
+    pub ghost few: { length coeffs ≤ 9 },
 }
 
 impl Gadget for PolyEval {

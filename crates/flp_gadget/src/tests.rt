@@ -41,7 +41,11 @@ fn seen<G: Gadget>(gadget: &G, inputs: &[Fe]) -> (usize, usize, Option<u64>) {
 fn products(rt: HostRuntime) -> Result<(), Fail> {
     for (left, right, product) in [(3, 5, 15), (0, 7, 0), (MODULUS - 1, MODULUS - 1, 1)] {
         let inputs = words([left, right])?;
-        assert_eq!(rt; seen(&Mul, &inputs), (2, 2, Some(product)), "{left} * {right}");
+        assert_eq!(rt;
+            seen(&Mul, &inputs),
+            (2, 2, Some(product)),
+            "{left} * {right}"
+        );
     }
     Ok(())
 }
@@ -95,5 +99,10 @@ fn kinds_of_polynomials(rt: HostRuntime) -> Result<(), Fail> {
     let text = [KindStep::Psum(2), KindStep::Poly(bit_check(rt.alloc())?)];
     let bits = kind_of(rt.alloc(), &text)?;
     assert_eq!(rt; seen(&bits, &words([3, 4])?), (2, 2, Some(18)));
+    let more = ParallelSum {
+        sub: bits,
+        count: 2,
+    };
+    assert_eq!(rt; seen(&more, &words([3, 4, 1, 2])?), (4, 2, Some(20)));
     Ok(())
 }

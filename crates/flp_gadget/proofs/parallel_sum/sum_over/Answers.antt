@@ -1,6 +1,5 @@
-use Rattle.std.proofs.Common.{ℕ, ◌≡◌, ◌∙◌, ap, arith}
-use Rattle.flp_gadget.specs.Formulas.{sum_over_groups}
-use Rattle.flp_gadget.proofs.GroupLemmas.{sum_over_groups-step}
+use Rattle.std.proofs.Common.{◌∙◌, arith}
+use Rattle.flp_gadget.proofs.GroupLemmas.{sum_over_groups-step, sum_over_groups-all}
 use Rattle.flp_gadget.proofs.parallel_sum.sum_over.Goals as goal
 
 pub loop-i-preserved : goal.loop-i-preserved
@@ -12,8 +11,5 @@ loop-i-preserved g c =
 
 pub returns : goal.returns
 returns g c =
-    let done : c.loop-i.i ≡ c.args.count = omega arith in
-    c.loop-i.invariant
-    ∙ ap
-    (λ (n : ℕ). sum_over_groups (g.G.Gadget.value c.args.sub.now) (g.G.Gadget.arity c.args.sub.now) n c.args.inputs.now)
-    done
+    sum_over_groups-all (g.G.Gadget.value c.args.sub.now) (g.G.Gadget.arity c.args.sub.now) c.loop-i.i c.args.count
+    c.args.inputs.now c.loop-i.sum c.loop-i.invariant (omega arith)
