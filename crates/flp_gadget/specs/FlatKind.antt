@@ -9,6 +9,7 @@ abbrev pub leaf_tree : Leaf → KindTree
 leaf_tree Product = Mul
 leaf_tree (Polynomial poly) = Poly poly.coeffs
 
+-- the product of the counts
 abbrev pub product_of : List ℕ → ℕ
 product_of [] = 1
 product_of (count ∷ counts) = count * product_of counts

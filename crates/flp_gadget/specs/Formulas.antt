@@ -7,6 +7,7 @@ use Rattle.flp_poly.specs.Polynomial.{value_at, poly_sum, poly_product}
 abbrev pub product_value : List ℕ → ℕ
 product_value xs = word_product (slice_index xs 0) (slice_index xs 1)
 
+-- and of two polynomials
 abbrev pub product_formula : List (List ℕ) → List ℕ
 product_formula ps = poly_product (get_or ps 0 []) (get_or ps 1 [])
 
@@ -24,6 +25,7 @@ abbrev pub composed : List ℕ → List ℕ → List ℕ
 composed [] p = []
 composed (c ∷ cs) p = nested c cs p
 
+-- and at one polynomial
 abbrev pub poly_formula : List ℕ → List (List ℕ) → List ℕ
 poly_formula cs ps = composed cs (get_or ps 0 [])
 
@@ -32,7 +34,7 @@ abbrev pub groups : {A : Type 0} → ℕ → ℕ → List A → List (List A)
 groups size zero xs = []
 groups size (suc count) xs = take size xs ∷ groups size count (drop size xs)
 
--- the sum of what a gadget gives at each group
+-- the sum of a gadget's values at each group of words
 abbrev pub sum_over_groups : (List ℕ → ℕ) → ℕ → ℕ → List ℕ → ℕ
 sum_over_groups value size count xs = sum (map value (groups size count xs)) % modulus
 
@@ -41,5 +43,6 @@ abbrev pub poly_total : List (List ℕ) → List ℕ
 poly_total [] = []
 poly_total (p ∷ ps) = poly_sum p (poly_total ps)
 
+-- the sum of what a gadget's formula gives at each group of polynomials
 abbrev pub total_over_groups : (List (List ℕ) → List ℕ) → ℕ → ℕ → List (List ℕ) → List ℕ
 total_over_groups formula size count ps = poly_total (map formula (groups size count ps))

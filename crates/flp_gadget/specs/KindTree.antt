@@ -10,11 +10,13 @@ pub data KindTree : Type 0 where
   Poly : (coeffs : List ℕ) → KindTree
   Psum : (sub : KindTree) → (count : ℕ) → KindTree
 
+-- the number of inputs
 abbrev pub arity_of : KindTree → ℕ
 arity_of Mul = 2
 arity_of (Poly coeffs) = 1
 arity_of (Psum sub count) = count * arity_of sub
 
+-- the degree, which counts each coefficient of a polynomial but one, also where the last of them is 0
 abbrev pub degree_of : KindTree → ℕ
 degree_of Mul = 2
 degree_of (Poly coeffs) = length coeffs - 1
@@ -38,13 +40,14 @@ HasParts Mul = Unit {0}
 HasParts (Poly coeffs) = (2 ≤ length coeffs) × (length coeffs ≤ 9)
 HasParts (Psum sub count) = (1 ≤ count) × HasParts sub
 
--- what holds of every kind
+-- what holds of every kind that a program has: it also has at most 1,024 inputs
 pub record IsKind (tree : KindTree) : Type 0 where
   pub parts : HasParts tree
   pub few_inputs : arity_of tree ≤ 1024
 
 -- ---- a tree as its counts, the outermost first, and its leaf
 
+-- a leaf under sums with these counts
 abbrev pub tree_over : List ℕ → KindTree → KindTree
 tree_over [] leaf = leaf
 tree_over (count ∷ counts) leaf = Psum (tree_over counts leaf) count

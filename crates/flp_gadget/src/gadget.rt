@@ -37,8 +37,8 @@ pub trait Gadget {
         requires { length inputs.now ≡ arity self.now }
         ensures { result ≡ value self.now inputs.now };
 
-    /// The gadget applied to polynomials and then evaluated is the gadget of their values, and has at most
-    /// the degree that the gadget's own multiplies.
+    /// The gadget applied to polynomials and then evaluated is the gadget of their values, and where they
+    /// have degree at most d it has degree at most d times the gadget's.
     ghost law: { (g : Self) → GadgetLaw (arity g) (degree g) (value g) (formula g) };
 
     /// The arity is 1 to 1,024 and the degree 1 to 8.

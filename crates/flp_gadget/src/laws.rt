@@ -6,8 +6,9 @@ ghost use Rattle.flp_gadget.specs.FormulaLaws.{KindsObeyLaw, KindsAreWithinLimit
 
 use crate::gadget::Gadget;
 
-/// The two laws of the trait for this gadget: applied to polynomials and then evaluated it is the gadget of
-/// their values, and its degree multiplies theirs; and it has 1 to 1,024 inputs and degree 1 to 8.
+/// The two laws of the trait for this gadget. Applied to polynomials and then evaluated it is the gadget of
+/// their values, and where they have degree at most d it has degree at most d times the gadget's. It has 1 to
+/// 1,024 inputs and degree 1 to 8.
 pub fn gadget<G: Gadget>(gadget: &G)
     ensures law { GadgetLaw (G.arity gadget.now) (G.degree gadget.now) (G.value gadget.now) (G.formula gadget.now) }
     ensures limits { IsWithinLimits (G.arity gadget.now) (G.degree gadget.now) }
@@ -15,8 +16,7 @@ pub fn gadget<G: Gadget>(gadget: &G)
     let _arity = gadget.arity();
 }
 
-/// A kind applied to polynomials and then evaluated is the kind of their values, and its degree multiplies
-/// theirs. It has 1 to 1,024 inputs and degree 1 to 8.
+/// The same two laws of every kind.
 pub fn kinds()
     ensures law { KindsObeyLaw }
     ensures limits { KindsAreWithinLimits }
@@ -27,8 +27,8 @@ pub fn values()
     ensures { ValueIsWord }
 {}
 
-/// At polynomials with n coefficients each, a kind of degree d gives d * (n - 1) + 1 coefficients, all of
-/// them words.
+/// At polynomials with n coefficients each, a kind of degree d gives d * (n - 1) + 1 coefficients; they are
+/// words.
 pub fn formulas()
     ensures words { FormulaHasWords }
     ensures size { FormulaHasSize }
