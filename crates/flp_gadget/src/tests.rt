@@ -1,5 +1,7 @@
 //! Each gadget at inputs that were computed by hand. A coefficient -1 is written as p - 1.
-ghost use Rattle.std.specs.Prelude.{◌≡◌, IfOk, length};
+ghost use Rattle.flp_field.specs.Word.{modulus};
+ghost use Rattle.flp_gadget.specs.KindTree.{formula_of, Mul as KindMul, Poly as KindPoly, Psum as KindPsum};
+ghost use Rattle.std.specs.Prelude.{◌-◌, [], ◌∷◌, ◌≡◌, IfOk, length};
 
 use super::*;
 use flp_field::{Fe, MODULUS};
@@ -106,3 +108,11 @@ fn kinds_of_polynomials(rt: HostRuntime) -> Result<(), Fail> {
     assert_eq!(rt; seen(&more, &words([3, 4, 1, 2])?), (4, 2, Some(20)));
     Ok(())
 }
+
+/// Formulas at polynomials of degree 1: (2 + x) (3 + 2 x), then that and (1 + x) * 1 in one sum, and y^2 - y at
+/// y = 2 + x.
+fn formulas()
+    ensures product { formula_of KindMul ((2 ∷ 1 ∷ []) ∷ (3 ∷ 2 ∷ []) ∷ []) ≡ 6 ∷ 7 ∷ 2 ∷ [] }
+    ensures sum { formula_of (KindPsum KindMul 2) ((2 ∷ 1 ∷ []) ∷ (3 ∷ 2 ∷ []) ∷ (1 ∷ 1 ∷ []) ∷ (1 ∷ 0 ∷ []) ∷ []) ≡ 7 ∷ 8 ∷ 2 ∷ [] }
+    ensures polynomial { formula_of (KindPoly (0 ∷ (modulus - 1) ∷ 1 ∷ [])) ((2 ∷ 1 ∷ []) ∷ []) ≡ 2 ∷ 3 ∷ 1 ∷ [] }
+{}
