@@ -1,0 +1,26 @@
+-- What the values and the formulas of a kind are made of.
+use Rattle.std.specs.Prelude.{ℕ, ◌≡◌, ◌+◌, ◌-◌, ◌*◌, ◌≤◌, List, length, All}
+use Rattle.flp_field.specs.Word.{IsWord, AreWords}
+use Rattle.flp_gadget.specs.GadgetLaws.{GadgetLaw, IsWithinLimits}
+use Rattle.flp_gadget.specs.KindTree.{KindTree, arity_of, degree_of, value_of, formula_of, IsKind}
+
+-- each kind obeys the law of a gadget
+abbrev pub KindsObeyLaw : Type 0
+KindsObeyLaw = (tree : KindTree) → GadgetLaw (arity_of tree) (degree_of tree) (value_of tree) (formula_of tree)
+
+abbrev pub KindsAreWithinLimits : Type 0
+KindsAreWithinLimits = (tree : KindTree) → IsKind tree → IsWithinLimits (arity_of tree) (degree_of tree)
+
+-- at any numbers the value is a word
+abbrev pub ValueIsWord : Type 0
+ValueIsWord = (tree : KindTree) (xs : List ℕ) → IsWord (value_of tree xs)
+
+-- at any polynomials the formula's coefficients are words
+abbrev pub FormulaHasWords : Type 0
+FormulaHasWords = (tree : KindTree) (ps : List (List ℕ)) → IsKind tree → AreWords (formula_of tree ps)
+
+-- at polynomials with n coefficients each, the formula has degree * (n - 1) + 1
+abbrev pub FormulaHasSize : Type 0
+FormulaHasSize =
+    (tree : KindTree) (ps : List (List ℕ)) (n : ℕ) → IsKind tree → 1 ≤ n → length ps ≡ arity_of tree
+    → All (λ p. length p ≡ n) ps → length (formula_of tree ps) ≡ degree_of tree * (n - 1) + 1
