@@ -3,6 +3,7 @@
 ghost use Rattle.flp_poly.specs.PolynomialLaws.{SumHasValue, ProductHasValue, SumHasDegree, ProductHasDegree};
 ghost use Rattle.flp_poly.specs.PolynomialLaws.{RemainderIsValue, QuotientExists, QuotientIsUnique};
 ghost use Rattle.flp_poly.specs.PolynomialLaws.{RootCount, AgreementIsEquality, ValuesDetermine};
+ghost use Rattle.flp_poly.specs.Interpolation.{InterpolationExists, InterpolationIsUnique};
 
 /// The value of a sum is the sum of the values, and its degree is at most that of both.
 pub fn sums()
@@ -37,4 +38,11 @@ pub fn agreement()
 /// A polynomial with as many coefficients as a domain has points is determined by its values there.
 pub fn determined_by_values()
     ensures { ValuesDetermine }
+{}
+
+/// Each list of words whose number is a power of two up to 2^32 is the values, on the domain of that
+/// size, of one polynomial of as many coefficients.
+pub fn interpolation()
+    ensures exists { InterpolationExists }
+    ensures unique { InterpolationIsUnique }
 {}
