@@ -1,0 +1,9 @@
+-- The lemmas of the transforms.
+-- numbers with their binary digits in reverse
+pub mod Mirrors
+-- a level of the fast transform
+pub mod Halves
+-- the exchange of elements at mirrored places
+pub mod Exchanges
+-- the transforms over a root and its inverse
+pub mod Transforms
