@@ -1,4 +1,6 @@
 -- The lemmas of the transforms.
+-- powers of two as sizes
+pub mod Sizes
 -- numbers with their binary digits in reverse
 pub mod Mirrors
 -- a level of the fast transform

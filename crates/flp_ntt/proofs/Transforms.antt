@@ -1,9 +1,6 @@
--- The transforms over the root of a size and over its inverse. From the size's logarithm up.
-use Rattle.std.proofs.Common.{ℕ, suc, ◌≡◌, ◌-◌, ◌*◌, ◌%◌, ◌^◌, ◌<◌, ◌≤◌, List, length, get_or, map, arith, ap, ap₂, sym, subst, ◌∙◌, refl, ⊎_elim, lit<}
+-- The transforms over the root of a size and over its inverse. From the roots up.
+use Rattle.std.proofs.Common.{ℕ, suc, ◌≡◌, ◌-◌, ◌*◌, ◌%◌, ◌^◌, ◌<◌, ◌≤◌, List, length, get_or, map, arith, ap, ap₂, sym, subst, ◌∙◌, refl}
 use Rattle.std.specs.List.{Contains}
-use Rattle.std.proofs.Math.Nat.{pow-suc, pow-le-pow_right}
-use Rattle.std.proofs.lemmas.Nat.{pow_below}
-use Rattle.std.proofs.lemmas.Bool.{cases_lt}
 use Rattle.std.proofs.lemmas.List.{ext_get_or, get_or-map, length-map}
 use Rattle.flp_field.specs.Word.{modulus, AreWords, word_product}
 use Rattle.flp_field.specs.Order.{HasOrder}
@@ -16,18 +13,6 @@ use Rattle.flp_poly.proofs.Horner.{value_at-horner, horner_point}
 use Rattle.flp_poly.proofs.Vanishing.{length-values_on, get_or-values_on}
 use Rattle.flp_poly.proofs.Interpolation.{inverse-times, inverse-powers, length-interpolated, get_or-interpolated, interpolation_exists}
 use Rattle.flp_ntt.specs.Levels.{HasHalfTurn}
-
--- the logarithm of a power of two by its bounds
-pub log_is : (l r n : ℕ) → n ≡ 2 ^ l → 2 ^ r ≤ n → n < 2 * 2 ^ r → r ≡ l
-log_is l r n size above below =
-    ⊎_elim
-    (λ (less : r < l).
-    let next : 2 ^ suc r ≤ 2 ^ l = pow-le-pow_right {n = 2} (lit< tt) less in
-    let double : 2 ^ suc r ≡ 2 ^ r * 2 = pow-suc 2 r in
-    absurd (omega arith))
-    (λ (more : l ≤ r).
-    ⊎_elim (λ (over : l < r). let power : 2 ^ l < 2 ^ r = pow_below l r over in absurd (omega arith))
-    (λ (same : r ≤ l). omega arith) (cases_lt l r)) (cases_lt r l)
 
 -- ---- the roots
 

@@ -324,3 +324,10 @@ interpolation_unique log p q values small size at_p at_q =
     values_determine log p q small at_p.words at_q.words (at_p.size ∙ size) (at_q.size ∙ size)
     (ap (λ (n : ℕ). values_on n p) (sym size) ∙ at_p.agrees ∙ sym at_q.agrees
     ∙ ap (λ (n : ℕ). values_on n q) size)
+
+pub domain_has_inverses : (log : ℕ) → log ≤ 32
+    → (word_product (inverse_root (2 ^ log)) (alpha (2 ^ log)) ≡ 1) × (word_product (inverse_size (2 ^ log)) (2 ^ log) ≡ 1)
+domain_has_inverses log small = (
+  inverse-times (alpha (2 ^ log)) (2 ^ log) (alpha-order log small).positive (alpha-order log small).returns,
+  inverse_size-times log small,
+)

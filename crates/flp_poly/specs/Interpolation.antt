@@ -1,4 +1,4 @@
--- The polynomial through given values on a domain. From the relation to the function that computes it, and the laws.
+-- The polynomial through given values on a domain. From the relation to the function that computes the coefficients, and the laws.
 use Rattle.std.specs.Prelude.{ℕ, ◌≡◌, ◌-◌, ◌/◌, ◌^◌, ◌≤◌, List, length, map}
 use Rattle.std.specs.List.{range_with_len}
 use Rattle.flp_field.specs.Word.{modulus, AreWords, word_power, word_product}
@@ -18,6 +18,12 @@ inverse_root size = word_power (alpha size) (size - 1)
 -- the inverse of this size, a power of two up to 2^32, which divides p - 1
 abbrev pub inverse_size : ℕ → ℕ
 inverse_size size = modulus - (modulus - 1) / size
+
+-- these are the inverses
+abbrev pub DomainHasInverses : Type 0
+DomainHasInverses =
+    (log : ℕ) → log ≤ 32
+    → (word_product (inverse_root (2 ^ log)) (alpha (2 ^ log)) ≡ 1) × (word_product (inverse_size (2 ^ log)) (2 ^ log) ≡ 1)
 
 -- the coefficients through these values: number k is their value, as a polynomial, at the power k of the inverse root,
 -- over their number. A proof takes what it is from the laws

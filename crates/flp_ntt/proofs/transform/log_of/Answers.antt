@@ -1,5 +1,5 @@
 use Rattle.std.proofs.Common.{ℕ, ◌≤◌, ◌^◌, ◌∙◌, ap, sym, subst}
-use Rattle.flp_ntt.proofs.Transforms.{log_is}
+use Rattle.flp_ntt.proofs.Sizes.{log_is}
 use Rattle.flp_ntt.proofs.transform.log_of.Goals as goal
 
 pub returns-clause-limit : goal.returns-clause-limit
