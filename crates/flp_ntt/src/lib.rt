@@ -11,8 +11,8 @@
 //!
 //! A transform takes a slice whose length is a power of two up to 1,048,576. No call takes memory.
 //!
-//! The fast transform is that of Cooley and Tukey in the form of Gentleman and Sande, which the VDAF
-//! draft of the IETF names for polynomials in its chapter "Fully Linear Proofs".
+//! The fast transform is that of Gentleman and Sande (1966): a level halves the polynomials, and the
+//! values come out in an order that one pass of exchanges puts right.
 #![tactic(auto)]
 
 mod interpolation;
