@@ -1,5 +1,5 @@
 -- The value of a polynomial by Horner's rule, before the remainder is taken. From the rule up.
-use Rattle.std.proofs.Common.{ℕ, suc, ◌≡◌, ◌+◌, ◌*◌, ◌%◌, ◌^◌, ◌<◌, ◌≤◌, List, [], ◌∷◌, length, get_or, drop, arith, ap, ap₂, sym, ◌∙◌, refl, add-one, ◌-◌}
+use Rattle.std.proofs.Common.{ℕ, suc, ◌≡◌, ◌+◌, ◌*◌, ◌%◌, ◌^◌, ◌<◌, ◌≤◌, List, [], ◌∷◌, ◌++◌, length, get_or, drop, arith, ap, ap₂, sym, ◌∙◌, refl, add-one, ◌-◌}
 use Rattle.std.proofs.Math.Nat.{pow-suc, pow-zero}
 use Rattle.std.proofs.lemmas.List.{at_drop_more, get_or_read}
 use Rattle.flp_field.specs.Word.{modulus}
@@ -66,3 +66,15 @@ horner_step cs t left v x some inside value read =
     ∙ same_mul v (horner (drop left cs) t) t t
     (ap (λ (n : ℕ). n % modulus) value ∙ same_mod (horner (drop left cs) t)) refl) refl
     ∙ ap (λ (n : ℕ). n % modulus) (sym (opened ∙ rest))
+
+-- a polynomial in two parts
+pub horner-append : (cs ds : List ℕ) (t : ℕ) → horner (cs ++ ds) t ≡ horner cs t + t ^ length cs * horner ds t
+horner-append [] ds t =
+    let one : t ^ 0 * horner ds t ≡ 1 * horner ds t = ap (λ (k : ℕ). k * horner ds t) (pow-zero t) in
+    omega arith
+horner-append (c ∷ cs) ds t =
+    let rest : t * horner (cs ++ ds) t ≡ t * (horner cs t + t ^ length cs * horner ds t) =
+    ap (λ (k : ℕ). t * k) (horner-append cs ds t) in
+    let power : t ^ suc (length cs) * horner ds t ≡ t ^ length cs * t * horner ds t =
+    ap (λ (k : ℕ). k * horner ds t) (pow-suc t (length cs)) in
+    omega arith

@@ -9,3 +9,5 @@ pub mod Products
 pub mod Quotients
 -- the count of roots
 pub mod Vanishing
+-- the polynomial through values on a domain
+pub mod Interpolation

@@ -2,3 +2,5 @@
 pub mod Polynomial
 -- the laws of their values, degrees and roots
 pub mod PolynomialLaws
+-- the polynomial through values on a domain
+pub mod Interpolation

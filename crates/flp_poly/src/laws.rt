@@ -1,8 +1,9 @@
 //! The laws of polynomials, each the contract of a function that does nothing. A caller's proof takes
-//! the law from here; the definitions are in `specs/PolynomialLaws.antt`.
+//! the law from here; the definitions are in `specs/PolynomialLaws.antt` and `specs/Interpolation.antt`.
 ghost use Rattle.flp_poly.specs.PolynomialLaws.{SumHasValue, ProductHasValue, SumHasDegree, ProductHasDegree};
 ghost use Rattle.flp_poly.specs.PolynomialLaws.{RemainderIsValue, QuotientExists, QuotientIsUnique};
 ghost use Rattle.flp_poly.specs.PolynomialLaws.{RootCount, AgreementIsEquality, ValuesDetermine};
+ghost use Rattle.flp_poly.specs.Interpolation.{InterpolationExists, InterpolationIsUnique, DomainHasInverses};
 
 /// The value of a sum is the sum of the values, and its degree is at most that of both.
 pub fn sums()
@@ -37,4 +38,13 @@ pub fn agreement()
 /// A polynomial with as many coefficients as a domain has points is determined by its values there.
 pub fn determined_by_values()
     ensures { ValuesDetermine }
+{}
+
+/// Each list of words whose number is a power of two up to 2^32 is the values, on the domain of that
+/// size, of one polynomial of as many coefficients. They are a transform too: that over the inverse of
+/// the root of unity, times the inverse of the size.
+pub fn interpolation()
+    ensures exists { InterpolationExists }
+    ensures unique { InterpolationIsUnique }
+    ensures inverses { DomainHasInverses }
 {}

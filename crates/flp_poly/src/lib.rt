@@ -3,7 +3,8 @@
 //! A coefficient past the end is 0, so that slices of different lengths can be the same polynomial.
 //! The definitions that the contracts cite are in `specs/Polynomial.antt`, and the laws that they obey
 //! are the contracts of the functions in [`laws`]: among them that a polynomial of degree at most d with
-//! some coefficient but 0 has d different roots at most, on which the soundness of a proof rests.
+//! some coefficient but 0 has d different roots at most, on which the soundness of a proof rests, and that
+//! values on a domain are those of one polynomial (`specs/Interpolation.antt`), whose transforms flp_ntt has.
 //!
 //! No call takes memory: results go to the slice that the caller lends.
 #![tactic(auto)]
