@@ -30,7 +30,7 @@ DomainIsRoots =
 abbrev pub PowersDiffer : Type 0
 PowersDiffer = (x n : ℕ) → HasOrder x n → AllPairs (λ s t. s ≢ t) (powers_of x n)
 
--- the sum of as many powers of a word as its order is 0, where the word is not 1
+-- where the power of a word with the exponent n is 1, the sum of its first n powers is 0, unless the word is 1
 abbrev pub PowersSumToZero : Type 0
 PowersSumToZero = (x n : ℕ) → IsWord x → x ≢ 1 → word_power x n ≡ 1 → sum (powers_of x n) % modulus ≡ 0
 

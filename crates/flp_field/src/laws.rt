@@ -72,7 +72,8 @@ pub fn powers_differ()
     ensures { PowersDiffer }
 {}
 
-/// The sum of the powers of a root of unity is 0, or their count where the root is 1.
+/// The sum of the powers of a root of unity, as many as the exponent with which its power is 1, is 0, or
+/// their count where the root is 1.
 pub fn sums_of_powers()
     ensures zero { PowersSumToZero }
     ensures count { OnesSumToCount }

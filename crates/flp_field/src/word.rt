@@ -1,5 +1,5 @@
-//! The type of a word and its arithmetic. No call here divides: a product of two words is brought
-//! below the modulus by 2^64 = 2^32 - 1 and 2^96 = -1, and sums and differences by their carry.
+//! The type of a word and its arithmetic. No call here divides by the modulus: a product of two words
+//! is brought below it by 2^64 = 2^32 - 1 and 2^96 = -1, and sums and differences by their carry.
 ghost use Rattle.std.specs.Prelude.{◌≡◌, ◌+◌, ◌*◌, ◌%◌, ◌<◌, ◌↔◌, IsSome, IfSome};
 ghost use Rattle.flp_field.specs.Word.{modulus, IsWord, word_sum, word_difference, word_negation, word_product, word_power};
 
@@ -39,7 +39,7 @@ impl Fe {
     /// The word 1.
     pub const ONE: Fe = Fe { word: 1 };
 
-    /// The word 7^4294967295, whose order is 2^32.
+    /// The word 7^4294967295, whose order is 2^32. [`Fe::root`] of 32 answers it.
     pub const GENERATOR: Fe = Fe {
         word: 1753635133440165772,
     };

@@ -26,10 +26,13 @@ fn inverses(rt: HostRuntime) -> Result<(), Fail> {
 }
 
 #[test]
-fn roots(rt: HostRuntime) {
+fn roots(rt: HostRuntime) -> Result<(), Fail> {
     assert_eq!(rt; Fe::root(0), Fe::ONE);
     assert_eq!(rt; Fe::root(1).value(), LAST);
     assert_eq!(rt; Fe::root(32), Fe::GENERATOR);
+    // the generator is stated as this power of 7
+    assert_eq!(rt; Fe::root(32), word(7)?.pow(4294967295));
     // the root of order 4 is 2^48, whose square is 2^96 = -1
     assert_eq!(rt; Fe::root(2).value(), 281474976710656);
+    Ok(())
 }
