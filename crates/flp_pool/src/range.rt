@@ -1,5 +1,5 @@
 //! The fork of a seat to workers, and the run over a range.
-ghost use Rattle.std.specs.Prelude.{◌≡◌, ◌+◌, ◌-◌, ◌<◌, ◌≤◌, ℕ, length, Some, sum_by};
+ghost use Rattle.std.specs.Prelude.{◌≡◌, ◌+◌, ◌-◌, ◌*◌, ◌/◌, ◌<◌, ◌≤◌, ℕ, length, Some, sum_by};
 ghost use denote.Param.Send.{IsSend};
 ghost use Rattle.std.specs.Thread.{IsSync};
 ghost use Rattle.flp_tally.specs.Held.{IsSeatOf};
@@ -25,7 +25,11 @@ pub(crate) struct Span {
 ///
 /// Each worker enters the gate once with its number, and then walks the range from a start of its own, doing the
 /// numbers that it claims and adding their rows under them. A worker for which no thread can be started is run by the
-/// caller itself.
+/// caller itself. No memory is taken.
+///
+/// There are 1 to 16 workers, and no more than the seat has weight. The seat holds the full weight and has claimed no
+/// number of the range. Each state is right and has room for the whole range, and each row that the work has there is as
+/// long as the tally has elements.
 pub fn run_range<R: Threads + Sync, W: Work, G: Gate>(
     rt: &R,
     work: &W,
@@ -157,6 +161,7 @@ fn start_of(span: Span, worker: u32) -> u32
     requires worker { worker < span.workers }
     ensures from { span.lo ≤ result }
     ensures to { result ≤ span.hi }
+    ensures spread { result ≡ span.lo + (span.hi - span.lo) * worker / span.workers }
 {
     span.lo + ((span.hi - span.lo) as u64 * worker as u64 / span.workers as u64) as u32
 }

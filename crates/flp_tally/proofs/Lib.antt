@@ -9,3 +9,4 @@ pub mod Adding
 pub mod Rows
 pub mod Totals
 pub mod StateLaws
+pub mod StepLaws

@@ -1,6 +1,17 @@
 //! What holds in every schedule: each kind of step keeps the rule from any state that meets it, and what the rule says.
 //! Each function's contract is the law; none does anything when it runs.
 ghost use Rattle.flp_tally.specs.Kinds.{Keeps, SplitStep, JoinStep, ClaimStep, AddStep, PeekStep, LearnStep, NeverWraps, ClaimedOnce, BitIsClaimed, SeenIsClaimedBySome, AddedOnce};
+ghost use Rattle.flp_tally.specs.StepKinds.{ClaimsAreSteps, PeeksAreSteps, AddsAreSteps, LearnsAreSteps, SplitsAreSteps, JoinsAreSteps};
+
+/// Each step that a call of a tally makes is of one of the kinds, by what it tells its seat.
+pub fn steps_are_kinds()
+    ensures splits { SplitsAreSteps }
+    ensures joins { JoinsAreSteps }
+    ensures claims { ClaimsAreSteps }
+    ensures adds { AddsAreSteps }
+    ensures peeks { PeeksAreSteps }
+    ensures learns { LearnsAreSteps }
+{}
 
 /// A split keeps the rule.
 pub fn split_keeps_the_rule()

@@ -13,7 +13,7 @@ use flp_field::{Fe, MODULUS};
 use std::alloc::{AllocError, Global};
 use std::marker::{Brand, Model};
 
-/// The claim bits of a number of reports, and the sums of a number of elements.
+/// The claim bits of a number of reports, and the sums of a number of elements. Each call takes seats of its own tally alone.
 #[derive(Drop)]
 pub struct Tally {
     table: Table<u8, View, Shape, Tallied, Global>,
@@ -55,13 +55,16 @@ impl Model for Seat {
 /// Whether a number was still free.
 #[derive(Clone, Copy, PartialEq, Eq, Debug)]
 pub enum Claim {
+    /// The number was free, and is now claimed by the seat that asked.
     Mine,
+    /// The number was claimed before, by the same seat or another.
     Taken,
 }
 
 impl Tally {
     /// A tally with no number claimed and each sum 0, and its first seat, which has the full weight.
-    /// `Memory` where there is none for the words.
+    ///
+    /// There are 1 to 65,536 elements, and the weight is at least 1. An error says that there is no memory for the words.
     pub fn new(
         alloc: Global,
         reports: u32,
@@ -89,7 +92,7 @@ impl Tally {
     }
 
     /// Two seats for one: the first keeps the lists and the larger half of the weight, the second starts with none and
-    /// has the rest.
+    /// has the rest. The seat has a weight of at least 2.
     pub fn split(&self, seat: Seat) -> (Seat, Seat)
         requires seat { IsSeatOf self.now seat }
         requires weight { 2 ≤ seat.view.weight }
@@ -112,7 +115,7 @@ impl Tally {
         )
     }
 
-    /// One seat for two, with both weights and all lists.
+    /// One seat for two, with both weights and all lists, those of the first in front.
     pub fn join(&self, first: Seat, second: Seat) -> Seat
         requires first { IsSeatOf self.now first }
         requires second { IsSeatOf self.now second }
@@ -135,7 +138,7 @@ impl Tally {
         }
     }
 
-    /// Whether the number was claimed at the moment of the look.
+    /// Whether the number, which is below the number of reports, was claimed at the moment of the look.
     pub fn peek(&self, seat: &mut Seat, number: u32) -> bool
         requires seat { IsSeatOf self.now seat.old }
         requires number { number < self.now.reports }
@@ -149,7 +152,7 @@ impl Tally {
         is_marked(word, number)
     }
 
-    /// Claims a number, which one call alone can do.
+    /// Claims a number below the number of reports, which one call alone can do.
     pub fn claim(&self, seat: &mut Seat, number: u32) -> Claim
         requires seat { IsSeatOf self.now seat.old }
         requires number { number < self.now.reports }
@@ -202,7 +205,7 @@ impl Tally {
 
     /// Ends the tally, and writes each element's total: the sum of the added rows' words in the field.
     ///
-    /// There are as many totals as the tally has elements.
+    /// The seat has the full weight, and there are as many totals as the tally has elements.
     pub fn close(self, seat: Seat, totals: &mut [Fe])
         requires seat { IsSeatOf self seat }
         requires weight { seat.view.weight ≡ seat.view.full }

@@ -87,6 +87,45 @@ impl Work for Numbers {
     }
 }
 
+/// A gate and one item, which sees how often the gate was entered before it.
+#[derive(Drop)]
+struct Watched {
+    entered: AtomicU32,
+    seen: AtomicU32,
+}
+
+impl Gate for Watched {
+    fn enter(&self, _worker: u32) {
+        self.entered.fetch_add(1, SeqCst);
+    }
+}
+
+impl Work for Watched {
+    type State = Notes;
+
+    ghost row_of = { λ w n. Some (n ∷ []) };
+
+    ghost last = { λ s. Some s.word };
+
+    ghost room = { λ s. 8 - s.count };
+
+    ghost done = { λ s. take s.count s.numbers };
+
+    ghost right = { λ w s. s.count ≤ 8 };
+
+    ghost takes = { λ w n. n < 1 };
+
+    fn item(&self, number: u32, state: &mut Notes) -> bool {
+        state.note(number);
+        self.seen.store(self.entered.load(SeqCst), SeqCst);
+        true
+    }
+
+    fn row<'a>(&self, state: &'a Notes) -> &'a [Fe] {
+        &state.word
+    }
+}
+
 /// Two items, of which each waits until the other was begun.
 #[derive(Drop)]
 struct Meeting {
@@ -148,6 +187,20 @@ fn each_worker_enters_the_gate_once(rt: HostRuntime) -> Result<(), Fail> {
     for state in &states {
         assert_eq!(rt; state.count, 0);
     }
+    Ok(())
+}
+
+#[test]
+fn the_gate_stands_before_the_items(rt: HostRuntime) -> Result<(), Fail> {
+    let (tally, seat) = Tally::new(rt.alloc(), 1, 1, 1)?;
+    let watched = Watched {
+        entered: AtomicU32::new(0),
+        seen: AtomicU32::new(0),
+    };
+    let mut states = [Notes::new()];
+    let _seat = run_range(&rt, &watched, &tally, seat, 1, 0, 1, &mut states, &watched);
+    assert_eq!(rt; watched.seen.load(SeqCst), 1);
+    assert_eq!(rt; watched.entered.load(SeqCst), 1);
     Ok(())
 }
 
