@@ -1,0 +1,2 @@
+-- The field of the words, from the modulus up.
+pub mod Word
