@@ -1,0 +1,6 @@
+pub mod Tree
+pub mod Grammar
+pub mod Verdict
+pub mod Marks
+pub mod Plan
+pub mod Run

@@ -1,0 +1,12 @@
+//! Circuit text: the language in which a circuit says when an encoding is valid.
+#![tactic(auto)]
+
+mod fault;
+mod syntax;
+mod token;
+
+pub use fault::{Counted, LangFault};
+pub use syntax::{
+    Arg, Body, Circuit, Coef, Decl, Expr, Idx, IdxItem, Item, KindText, Params, Stmt,
+};
+pub use token::{Mark, Token};
