@@ -6,3 +6,5 @@ pub mod Parts
 pub mod Follow
 pub mod Steps
 pub mod Verdicts
+pub mod Digits
+pub mod Readings
