@@ -5,3 +5,4 @@ pub mod Verdict
 pub mod Marks
 pub mod Plan
 pub mod Run
+pub mod View
