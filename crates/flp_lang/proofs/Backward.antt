@@ -17,7 +17,6 @@ use Rattle.flp_lang.specs.declared.token.Mark.{Mark}
 use Rattle.flp_lang.specs.declared.token.Mark.TheVariants.{Use, Meas, Joint, Gadget, Check, Out, Each, Sum, In, Mul, Poly, Psum, Semicolon, Equals, OpenBracket, CloseBracket, Question, Open, Close, Plus, Minus, Star, Caret, Comma, DotDot}
 
 module _ (c : Text) where
-
   of_index_prim : (K : Index → Plan) (k : ℕ) (t : Token) (s : List Token) → Lives (plan.start_index_prim k t K) (suc k) s c → Completes (next plan.index_prim K) k (t ∷ s) c
   of_index_prim K k (Number n) s C = (_, _, _, an_index_number, C)
   of_index_prim K k (Name n) s C = (_, _, _, an_index_var, C)

@@ -313,7 +313,7 @@ avoids_stmts K v k t h = cc
 
 at_body : (k : ℕ) (t : Token) (K : Program → Plan) → Behind stmts_tail K → FollowsOption (plan.start_body k t K)
 at_body k (Fixed Meas) K F =
-    ((λ m. (λ _. ((λ _. (((λ j. (λ _. (after_decl (λ v more. next plan.stmts (λ w. K (record { meas = m; joint = j; gadgets = v ∷ more; stmts = statements w }))) (λ v. (λ more. (λ w. F.0 _, λ w. F.1 _), avoids_stmts (λ more w. K (record { meas = m; joint = j; gadgets = v ∷ more; stmts = statements w }))))), λ _ _ _ h'. cc)), λ _ _ _ h'. cc)), λ _ _ _ h'. cc)), λ _ _ _ h'. cc)), λ _ _ _ h'. cc) 
+    ((λ m. (λ _. ((λ _. (((λ j. (λ _. (after_decl (λ v more. next plan.stmts (λ w. K (record { meas = m; joint = j; gadgets = v ∷ more; stmts = statements w }))) (λ v. (λ more. (λ w. F.0 _, λ w. F.1 _), avoids_stmts (λ more w. K (record { meas = m; joint = j; gadgets = v ∷ more; stmts = statements w }))))), λ _ _ _ h'. cc)), λ _ _ _ h'. cc)), λ _ _ _ h'. cc)), λ _ _ _ h'. cc)), λ _ _ _ h'. cc)
 at_body k t K F = tt
 
 at_setting : (name : List ℕ) (t : Token) (K : ℕ → Plan) → ((v : ℕ) → Follows (K v)) → FollowsOption (plan.start_setting name t K)

@@ -8,3 +8,5 @@ pub mod Steps
 pub mod Verdicts
 pub mod Digits
 pub mod Readings
+pub mod Moves
+pub mod Made

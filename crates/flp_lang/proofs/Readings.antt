@@ -52,7 +52,7 @@ sized-number : (byte : ℕ) (more : List ℕ) → is_digit byte ≡ true → Siz
 sized-number byte more e =
     let digits = take (prefix_len is_digit (byte ∷ more)) (byte ∷ more) in
     sized-if (byte ∷ more) (nat_lt (digits_value digits) modulus) (Some (Some (Number (digits_value digits)), length digits)) None
-        (λ _. rw (length-prefix_len is_digit (byte ∷ more)) (sized-front is_digit byte more e)) (λ _. tt)
+    (λ _. rw (length-prefix_len is_digit (byte ∷ more)) (sized-front is_digit byte more e)) (λ _. tt)
 
 two-long : (text : List ℕ) → take 2 text ≡ codes ".." → 2 ≤ length text
 two-long text e = omega (arith, length-take 2 text, ap length e)
@@ -61,7 +61,7 @@ sized-symbol : (mark : Option Mark) (byte : ℕ) (more : List ℕ) → Sized (by
 sized-symbol (Some mark) byte more = (omega arith, omega arith)
 sized-symbol None byte more =
     sized-if (byte ∷ more) (bytes_eq (take 2 (byte ∷ more)) (codes "..")) (Some (Some (Fixed DotDot), 2)) None
-        (λ e. (omega arith, two-long (byte ∷ more) (bytes_eq-true _ _ e))) (λ _. tt)
+    (λ e. (omega arith, two-long (byte ∷ more) (bytes_eq-true _ _ e))) (λ _. tt)
 
 pub sized : (text : List ℕ) → Sized text (piece_of text)
 sized [] = tt

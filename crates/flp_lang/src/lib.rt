@@ -2,7 +2,9 @@
 #![tactic(auto)]
 
 mod fault;
+mod index;
 mod lexer;
+mod parser;
 mod syntax;
 mod token;
 

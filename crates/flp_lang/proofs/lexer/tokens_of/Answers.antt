@@ -14,5 +14,5 @@ loop-rest-preserved c =
     let sized = rw c.in-Some.is at c.in_ok-token.ensures.sized in
     record {
       read = reads-step c.args.text.now rest _ _ c.in-Some.token c.in-Some.length c.loop-rest.invariant.read piece pushed;
-      few = few-step rest _ _ c.in-Some.token c.in-Some.length _ c.loop-rest.invariant.few pushed sized.0 sized.1
+      few = few-step rest _ _ c.in-Some.token c.in-Some.length _ c.loop-rest.invariant.few pushed sized.0 sized.1;
     }

@@ -1,0 +1,21 @@
+-- What the makers of sums and products make.
+use Rattle.std.proofs.Common.{ℕ, suc, ◌+◌, ◌<◌, Bool, true, false, List, [], ◌∷◌, length, map, ◌≡◌, refl, sym, ◌∙◌, ap, arith, ◌==◌}
+use Rattle.std.proofs.lemmas.Bool.Decides.{nat_tests}
+use Rattle.std.specs.List.{insert}
+use Rattle.flp_lang.specs.Tree.{Index, index_add, index_mul, index_items, indices, index_sum, index_product, index_at}
+use Rattle.flp_lang.specs.View.{index_of, index_item_of, index_of_Add, index_of_Mul, index_item_of_roll}
+use Rattle.flp_lang.specs.declared.syntax.Idx.{Idx}
+use Rattle.flp_lang.specs.declared.syntax.Idx.TheVariants as idx
+use Rattle.flp_lang.specs.declared.syntax.IdxItem.{IdxItem, roll-IdxItem}
+
+-- a length that is not 0
+pub nonzero : (n m : ℕ) → n ≡ m → (n == 0) ≡ false → 0 < m
+nonzero n m e h = grind (arith, nat_tests)
+
+pub index_sum_made : (at : ℕ) (first : Idx) (more xs : List IdxItem) → 0 < length more → at ≡ index_at (index_of first) → xs ≡ roll-IdxItem (record { minus = false; idx = first }) ∷ more → index_of (idx.Add at xs) ≡ index_sum (index_of first) (map index_item_of more)
+index_sum_made at first [] xs h i e = absurd (omega arith)
+index_sum_made at first (x ∷ more) xs h i e = index_of_Add at xs ∙ rw (e, i, index_item_of_roll false first) refl
+
+pub index_product_made : (at : ℕ) (first : Idx) (more xs : List Idx) → 0 < length more → at ≡ index_at (index_of first) → xs ≡ first ∷ more → index_of (idx.Mul at xs) ≡ index_product (index_of first) (map index_of more)
+index_product_made at first [] xs h i e = absurd (omega arith)
+index_product_made at first (x ∷ more) xs h i e = index_of_Mul at xs ∙ rw (e, i) refl
