@@ -6,3 +6,4 @@ pub mod Marks
 pub mod Plan
 pub mod Run
 pub mod View
+pub mod Parsed

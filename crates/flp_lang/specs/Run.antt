@@ -1,16 +1,23 @@
 -- The tokens taken one by one, each at its place and under the levels that are open. Internal.
-use Rattle.std.specs.Prelude.{ℕ, suc, ◌+◌, Bool, true, false, nat_lt, List, [], ◌∷◌, Option, None, Some, ◌≡◌, Result, Ok, Err}
-use Rattle.flp_lang.specs.Tree.{Text}
+use Rattle.std.specs.Prelude.{ℕ, suc, ◌+◌, Bool, true, false, cond, codes, nat_lt, List, [], ◌∷◌, Option, None, Some, ◌≡◌, Result, Ok, Err}
+use Rattle.std.specs.Str.{bytes_eq}
+use Rattle.flp_lang.specs.Tree.{Text, Tree, joint, sum, Statement, check, out, each, statements, Kind, mul_kind, poly_kind, psum_kind}
+use Rattle.flp_lang.specs.declared.syntax.Params.{Params}
+use Rattle.flp_lang.specs.declared.syntax.Params.TheVariants as params
+use Rattle.flp_lang.specs.declared.standard.Which.{Which}
+use Rattle.flp_lang.specs.declared.standard.Which.TheVariants as whiches
 use Rattle.flp_lang.specs.Plan as plan
-use Rattle.flp_lang.specs.Plan.{Plan, done, next, after_token, at_end}
+use Rattle.flp_lang.specs.Plan.{Plan, done, next, fixed, range, named, meas_at, after_token, at_end}
 use Rattle.flp_lang.specs.Marks.{is_mark}
 use Rattle.flp_lang.specs.Verdict.{Verdict, good, bad, deep, moved}
 use Rattle.flp_lang.specs.declared.fault.LangFault.{LangFault}
 use Rattle.flp_lang.specs.declared.fault.LangFault.TheVariants.{Memory, Syntax, Depth}
+use Rattle.flp_lang.specs.declared.parser.Start.{Start}
+use Rattle.flp_lang.specs.declared.parser.Start.TheVariants as Starts
 use Rattle.flp_lang.specs.declared.token.Mark.{Mark}
 use Rattle.flp_lang.specs.declared.token.Token.{Token}
 use Rattle.flp_lang.specs.declared.token.Token.TheVariants.{Number, Name, Fixed}
-use Rattle.flp_lang.specs.declared.token.Mark.TheVariants.{Psum, OpenBracket, Open, Plus, Minus}
+use Rattle.flp_lang.specs.declared.token.Mark.TheVariants.{Psum, OpenBracket, Open, Close, CloseBracket, Plus, Minus, Joint, Meas, Sum, Check, Out, Each, Semicolon}
 
 -- whether the token opens the 65th level
 abbrev pub too_deep : Token → ℕ × ℕ → Bool
@@ -88,3 +95,77 @@ abbrev pub TakesName : ℕ → List Token → Result (Option (List ℕ)) LangFau
 TakesName k s (Ok (Some n)) k' s' = (s ≡ Name n ∷ s') × (k' ≡ suc k)
 TakesName k s (Ok None) k' s' = IsNoName s × (s' ≡ s) × (k' ≡ k)
 TakesName k s (Err fault) k' s' = fault ≡ Memory
+
+-- whether the mark is the next token
+abbrev pub is_next : Mark → List Token → Bool
+is_next m [] = false
+is_next m (t ∷ s) = is_mark m t
+
+-- what begins a primary expression
+abbrev pub start_of : List Token → Start
+start_of (Number n ∷ s) = Starts.Number
+start_of (Name n ∷ s) = Starts.Name
+start_of (Fixed Joint ∷ s) = Starts.Joint
+start_of (Fixed Meas ∷ s) = Starts.Meas
+start_of (Fixed Sum ∷ s) = Starts.Sum
+start_of (Fixed Open ∷ s) = Starts.Group
+start_of _ = Starts.Other
+
+-- the plans of primary expressions from their first token on
+abbrev pub joint_plan : ℕ → (Tree → Plan) → Plan
+joint_plan k K = fixed Joint (fixed OpenBracket (next plan.index (λ v. fixed CloseBracket (K (joint k v)))))
+
+abbrev pub meas_plan : ℕ → (Tree → Plan) → Plan
+meas_plan k K = fixed Meas (next plan.question (λ b. fixed OpenBracket (next plan.index (λ v. fixed CloseBracket (K (meas_at k b v))))))
+
+abbrev pub sum_plan : ℕ → (Tree → Plan) → Plan
+sum_plan k K = fixed Sum (range (λ n from to. next plan.expr (λ v. fixed Close (K (sum k n from to v)))))
+
+abbrev pub named_plan : ℕ → (Tree → Plan) → Plan
+named_plan k K = next plan.a_naming (λ n. next plan.called (λ v. K (named k n v)))
+
+-- whether a statement, or a coefficient, begins here
+abbrev pub starts_stmt : List Token → Bool
+starts_stmt (Fixed Check ∷ s) = true
+starts_stmt (Fixed Out ∷ s) = true
+starts_stmt (Fixed Each ∷ s) = true
+starts_stmt _ = false
+
+abbrev pub starts_coef : List Token → Bool
+starts_coef (Number n ∷ s) = true
+starts_coef (Fixed Minus ∷ s) = true
+starts_coef _ = false
+
+-- the plans of statements from their first token on
+abbrev pub check_plan : ℕ → (Statement → Plan) → Plan
+check_plan k K = fixed Check (next plan.expr (λ v. fixed Semicolon (K (check k v))))
+
+abbrev pub out_plan : ℕ → (Statement → Plan) → Plan
+out_plan k K = fixed Out (next plan.expr (λ v. fixed Semicolon (K (out k v))))
+
+abbrev pub each_plan : ℕ → (Statement → Plan) → Plan
+each_plan k K = fixed Each (range (λ n from to. next plan.stmts (λ v. fixed Close (K (each k n from to (statements v))))))
+
+-- how many levels of `psum` a kind opens
+abbrev pub psums : Kind → ℕ
+psums mul_kind = 0
+psums (poly_kind coefs) = 0
+psums (psum_kind count inner) = suc (psums inner)
+
+-- which standard circuit a name is
+abbrev pub which_of : List ℕ → Which
+which_of n =
+    cond (bytes_eq (codes "count") n) whiches.Count
+    (cond (bytes_eq (codes "sumvec") n) whiches.SumVec
+    (cond (bytes_eq (codes "histogram") n) whiches.Histogram
+    (cond (bytes_eq (codes "multihot") n) whiches.Multihot whiches.Other)))
+
+-- the plans of standard circuits behind their names
+abbrev pub sumvec_plan : (Params → Plan) → Plan
+sumvec_plan K = next (plan.setting (codes "length")) (λ l. next (plan.setting (codes "bits")) (λ b. next (plan.setting (codes "chunk")) (λ c. fixed Semicolon (K (params.SumVec l b c)))))
+
+abbrev pub histogram_plan : (Params → Plan) → Plan
+histogram_plan K = next (plan.setting (codes "length")) (λ l. next (plan.setting (codes "chunk")) (λ c. fixed Semicolon (K (params.Histogram l c))))
+
+abbrev pub multihot_plan : (Params → Plan) → Plan
+multihot_plan K = next (plan.setting (codes "length")) (λ l. next (plan.setting (codes "weight")) (λ w. next (plan.setting (codes "chunk")) (λ c. fixed Semicolon (K (params.Multihot l w c)))))

@@ -1,21 +1,47 @@
 //! The tokens of a text as the parser goes down through them once.
 ghost use Rattle.std.specs.Prelude.{◌≡◌, ◌+◌, ◌^◌, ◌<◌, ◌≤◌, ℕ, List, suc, false, length, IfOk, ◌∷◌};
-ghost use Rattle.flp_lang.specs.Plan.{Plan, next, a_mark, a_numeral, a_naming, setting, fixed};
+ghost use Rattle.flp_lang.specs.Plan.{Plan, next, a_mark, a_numeral, a_naming, setting, fixed, range};
+ghost use Rattle.flp_lang.specs.Plan as plan;
+ghost use Rattle.flp_lang.specs.Tree.{Index};
+ghost use Rattle.flp_lang.specs.View.{index_of};
 ghost use Rattle.flp_lang.specs.Verdict.{moved};
-ghost use Rattle.flp_lang.specs.Run.{Runs, Eats, TakesSign, TakesNumber, TakesName, too_deep};
+ghost use Rattle.flp_lang.specs.Run.{Runs, Eats, TakesSign, TakesNumber, TakesName, too_deep, is_next, start_of, starts_stmt, starts_coef};
 ghost use Rattle.flp_lang.specs.declared.token.Token.TheVariants.{Fixed};
-ghost use Rattle.flp_lang.specs.declared.token.Mark.TheVariants.{Open, OpenBracket};
+ghost use Rattle.flp_lang.specs.declared.token.Mark.TheVariants.{Open, OpenBracket, CloseBracket};
 
 use crate::fault::LangFault;
+use crate::syntax::Idx;
 use crate::token::{Mark, Token};
 use flp_field::Fe;
 use flp_list::{Bytes, List};
 use std::alloc::Global;
 
+/// What may begin a primary expression.
+#[derive(Clone, Copy)]
+pub enum Start {
+    Number,
+    Name,
+    Joint,
+    Meas,
+    Sum,
+    Group,
+    Other,
+}
+
+/// What a loop goes over: its variable, its bounds, and the level within.
+#[derive(Drop)]
+pub struct Range {
+    pub name: Bytes,
+    pub from: Idx,
+    pub to: Idx,
+    pub inner: u32,
+}
+
 /// The most levels of parentheses, brackets and `psum` that may be open at once.
 pub const MAX_DEPTH: u32 = 64;
 
 /// The tokens that are left, and the number of the first of them.
+#[derive(Drop)]
 pub struct Parser<'a> {
     pub alloc: Global,
     pub rest: &'a [Token],
@@ -176,6 +202,87 @@ impl<'a> Parser<'a> {
             Ok(Some(name)) => Ok(name),
             Ok(None) => Err(LangFault::Syntax(at)),
             Err(fault) => Err(fault),
+        }
+    }
+
+    /// Whether the mark is next.
+    pub fn is_next(&self, mark: Mark) -> bool
+        ensures { result ≡ is_next mark self.now.rest.now }
+    {
+        match self.rest {
+            [Token::Fixed(found), ..] => *found as u8 == mark as u8,
+            _ => false,
+        }
+    }
+
+    /// What begins a primary expression here.
+    pub fn start(&self) -> Start
+        ensures { result ≡ start_of self.now.rest.now }
+    {
+        match self.rest {
+            [Token::Number(_), ..] => Start::Number,
+            [Token::Name(_), ..] => Start::Name,
+            [Token::Fixed(Mark::Joint), ..] => Start::Joint,
+            [Token::Fixed(Mark::Meas), ..] => Start::Meas,
+            [Token::Fixed(Mark::Sum), ..] => Start::Sum,
+            [Token::Fixed(Mark::Open), ..] => Start::Group,
+            _ => Start::Other,
+        }
+    }
+
+    /// `NAME "in" idx ".." idx "("`
+    pub fn range(&mut self, level: u32) -> Result<Range, LangFault>
+        requires { level ≤ 64 }
+        ensures runs { (K : List ℕ → Index → Index → Plan) → Runs (level, 0) self.old.at (range K) self.old.rest.now result (λ r. (r.inner, 0)) self.new.at (λ r. K r.name (index_of r.from) (index_of r.to)) self.new.rest.now }
+        ensures inner { IfOk result (λ r. (r.inner ≡ suc level) × (r.inner ≤ 64)) }
+        ensures left { IfOk result (λ _. length self.new.rest.now < length self.old.rest.now) }
+    {
+        let name = self.expect_name()?;
+        self.expect(Mark::In)?;
+        let from = self.index(level)?;
+        self.expect(Mark::DotDot)?;
+        let to = self.index(level)?;
+        let inner = self.open(level)?;
+        Ok(Range {
+            name,
+            from,
+            to,
+            inner,
+        })
+    }
+
+    /// `"[" idx "]"`
+    pub fn bracketed(&mut self, level: u32) -> Result<Idx, LangFault>
+        requires { level ≤ 64 }
+        ensures runs { (K : Index → Plan) → Runs (level, 0) self.old.at (fixed OpenBracket (next plan.index (λ v. fixed CloseBracket (K v)))) self.old.rest.now result (λ _. (level, 0)) self.new.at (λ v. K (index_of v)) self.new.rest.now }
+        ensures left { IfOk result (λ _. length self.new.rest.now < length self.old.rest.now) }
+    {
+        let inner = self.open_bracket(level)?;
+        let index = self.index(inner)?;
+        self.expect(Mark::CloseBracket)?;
+        Ok(index)
+    }
+
+    /// Whether a statement begins here.
+    pub fn starts_stmt(&self) -> bool
+        ensures { result ≡ starts_stmt self.now.rest.now }
+    {
+        match self.rest {
+            [Token::Fixed(Mark::Check), ..] => true,
+            [Token::Fixed(Mark::Out), ..] => true,
+            [Token::Fixed(Mark::Each), ..] => true,
+            _ => false,
+        }
+    }
+
+    /// Whether a coefficient begins here.
+    pub fn starts_coef(&self) -> bool
+        ensures { result ≡ starts_coef self.now.rest.now }
+    {
+        match self.rest {
+            [Token::Number(_), ..] => true,
+            [Token::Fixed(Mark::Minus), ..] => true,
+            _ => false,
         }
     }
 }

@@ -30,16 +30,17 @@ pub more_index_terms-returns-in_err-idx-in-Some-clause-runs : goal.more_index_te
 more_index_terms-returns-in_err-idx-in-Some-clause-runs t c = λ K.
     let K' = λ (more : List (Bool × Index)). K (map index_item_of c.loop-minus.items.items ++ more) in
     fails _ _ _ _ _ _ _ _ _ _ c.from_residual.ensures _ (c.loop-minus.invariant.runs K ∙ index_terms_sign _ _ _ c.in-Some.minus K' _ _ c.in-Some.ensures.taken.0 c.in-Some.ensures.taken.1)
-        (c.in_err-idx-in-Some.ensures.runs (λ v. next plan.index_terms (λ more. K' ((c.in-Some.minus, v) ∷ more))))
+    (c.in_err-idx-in-Some.ensures.runs (λ v. next plan.index_terms (λ more. K' ((c.in-Some.minus, v) ∷ more))))
 
 pub more_index_terms-loop-minus-preserved : goal.more_index_terms-loop-minus-preserved
 more_index_terms-loop-minus-preserved t c = record {
   runs = λ K.
-    let K' = λ (more : List (Bool × Index)). K (map index_item_of c.loop-minus.items.items ++ more) in
-    c.loop-minus.invariant.runs K ∙ index_terms_sign _ _ _ c.in-Some.minus K' _ _ c.in-Some.ensures.taken.0 c.in-Some.ensures.taken.1
-    ∙ c.in_ok-idx-in-Some.ensures.runs (λ v. next plan.index_terms (λ more. K' ((c.in-Some.minus, v) ∷ more)))
-    ∙ more_read index_item_of (next plan.index_terms) _ _ _ K _ _ _ _ (index_item_of_roll c.in-Some.minus c.in_ok-idx-in-Some.idx) c.in_ok-push-in-Some.ensures.items;
-  left = omega (arith, c.in_ok-idx-in-Some.ensures.left, c.in-Some.ensures.left, c.loop-minus.invariant.left) }
+      let K' = λ (more : List (Bool × Index)). K (map index_item_of c.loop-minus.items.items ++ more) in
+      c.loop-minus.invariant.runs K ∙ index_terms_sign _ _ _ c.in-Some.minus K' _ _ c.in-Some.ensures.taken.0 c.in-Some.ensures.taken.1
+      ∙ c.in_ok-idx-in-Some.ensures.runs (λ v. next plan.index_terms (λ more. K' ((c.in-Some.minus, v) ∷ more)))
+      ∙ more_read index_item_of (next plan.index_terms) _ _ _ K _ _ _ _ (index_item_of_roll c.in-Some.minus c.in_ok-idx-in-Some.idx) c.in_ok-push-in-Some.ensures.items;
+  left = omega (arith, c.in_ok-idx-in-Some.ensures.left, c.in-Some.ensures.left, c.loop-minus.invariant.left);
+}
 
 pub more_index_terms-returns-clause-runs : goal.more_index_terms-returns-clause-runs
 more_index_terms-returns-clause-runs t c = λ K. c.loop-minus.invariant.runs K ∙ index_terms_end _ _ _ _ c.in-None.ensures.taken.0 ∙ all_read index_item_of _ _ _ _ _ K _ c.in-None.ensures.taken.1 c.in-None.ensures.taken.2
@@ -55,11 +56,12 @@ more_index_factors-loop-self-preserved t c =
     let e = rw c.loop-self-test.true at c.eat.ensures.eaten in
     record {
       runs = λ K.
-        let K' = λ (more : List Index). K (map index_of c.loop-self.factors.items ++ more) in
-        c.loop-self.invariant.runs K ∙ index_factors_star _ _ _ K' _ _ e.0 e.1
-        ∙ c.in_ok-factor.ensures.runs (λ v. next plan.index_factors (λ more. K' (v ∷ more)))
-        ∙ more_read index_of (next plan.index_factors) _ _ _ K _ _ _ _ refl c.in_ok-push.ensures.items;
-      left = omega (arith, c.in_ok-factor.ensures.left, c.eat.ensures.left, c.loop-self.invariant.left) }
+          let K' = λ (more : List Index). K (map index_of c.loop-self.factors.items ++ more) in
+          c.loop-self.invariant.runs K ∙ index_factors_star _ _ _ K' _ _ e.0 e.1
+          ∙ c.in_ok-factor.ensures.runs (λ v. next plan.index_factors (λ more. K' (v ∷ more)))
+          ∙ more_read index_of (next plan.index_factors) _ _ _ K _ _ _ _ refl c.in_ok-push.ensures.items;
+      left = omega (arith, c.in_ok-factor.ensures.left, c.eat.ensures.left, c.loop-self.invariant.left);
+    }
 
 pub more_index_factors-returns-clause-runs : goal.more_index_factors-returns-clause-runs
 more_index_factors-returns-clause-runs t c = λ K. let e = rw c.loop-self-test.false at c.eat.ensures.eaten in c.loop-self.invariant.runs K ∙ index_factors_end _ _ _ _ e.0 ∙ all_read index_of _ _ _ _ _ K _ e.1 e.2

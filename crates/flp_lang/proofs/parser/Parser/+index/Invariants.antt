@@ -25,7 +25,8 @@ decreases-more_index_terms l = 3 * length l.self.now.rest.now + 1
 abbrev pub invariant-more_index_factors-loop-self : goal.invariant-more_index_factors-loop-self
 invariant-more_index_factors-loop-self l = record {
   runs : (K : List Index → Plan) → run (l.fn.level, 0) l.fn.self.at (next plan.index_factors K) l.fn.self.rest.now ≡ run (l.fn.level, 0) l.self.at (next plan.index_factors (λ more. K (map index_of l.factors.items ++ more))) l.self.rest.now;
-  left : length l.self.rest.now ≤ length l.fn.self.rest.now }
+  left : length l.self.rest.now ≤ length l.fn.self.rest.now;
+}
 
 abbrev pub decreases-more_index_factors-loop-self : goal.decreases-more_index_factors-loop-self
 decreases-more_index_factors-loop-self l = length l.self.rest.now
@@ -34,7 +35,8 @@ decreases-more_index_factors-loop-self l = length l.self.rest.now
 abbrev pub invariant-more_index_terms-loop-minus : goal.invariant-more_index_terms-loop-minus
 invariant-more_index_terms-loop-minus l = record {
   runs : (K : List (Bool × Index) → Plan) → run (l.fn.level, 0) l.fn.self.at (next plan.index_terms K) l.fn.self.rest.now ≡ run (l.fn.level, 0) l.self.at (next plan.index_terms (λ more. K (map index_item_of l.items.items ++ more))) l.self.rest.now;
-  left : length l.self.rest.now ≤ length l.fn.self.rest.now }
+  left : length l.self.rest.now ≤ length l.fn.self.rest.now;
+}
 
 abbrev pub decreases-more_index_terms-loop-minus : goal.decreases-more_index_terms-loop-minus
 decreases-more_index_terms-loop-minus l = length l.self.rest.now
