@@ -5,7 +5,7 @@ use Rattle.std.proofs.lemmas.Bool.Decides.{nat_tests}
 use Rattle.flp_lang.specs.Marks.{is_mark, same_mark}
 use Rattle.flp_lang.specs.Plan as plan
 use Rattle.flp_lang.specs.Plan.{Plan, done, next, fixed, after_token, at_end}
-use Rattle.flp_lang.specs.Run.{run, go_on, finish, too_deep, IsFault, IsNotNext, IsNoNumber, IsNoName, IsNoSign, Eats, sign_mark, Runs, is_next, start_of, joint_plan, meas_plan, sum_plan, named_plan, starts_stmt, starts_coef, check_plan, out_plan, each_plan, psums, which_of, sumvec_plan, histogram_plan, multihot_plan}
+use Rattle.flp_lang.specs.Run.{run, go_on, finish, too_deep, IsFault, IsNotNext, IsNoNumber, IsNoName, IsNoSign, Eats, sign_mark, Runs, is_next, start_of, joint_plan, meas_plan, sum_plan, named_plan, starts_stmt, starts_coef, check_plan, out_plan, each_plan, psums, which_of, which_starts, Skips, is_word, TakesWord, count_plan, sum_circuit_plan, sumvec_plan, histogram_plan, multihot_plan}
 use Rattle.std.specs.Str.{bytes_eq}
 use Rattle.flp_lang.specs.Tree.{Text, standard, program, Program, Statement, check, out, each, statements, Kind, mul_kind, poly_kind, psum_kind, Declaration}
 use Rattle.flp_lang.specs.declared.syntax.Coef.{Coef}
@@ -18,7 +18,7 @@ use Rattle.flp_lang.specs.declared.parser.Start.TheVariants as Starts
 use Rattle.flp_lang.specs.Tree.{Index, index_number, index_var, index_sum, index_product}
 use Rattle.flp_lang.specs.declared.fault.LangFault.{LangFault}
 use Rattle.flp_lang.specs.Verdict.{Verdict, good, bad, deep, moved}
-use Rattle.flp_lang.proofs.MarkTests.{same_mark-self}
+use Rattle.flp_lang.proofs.MarkTests.{same_mark-self, bytes_eq-self, bytes_eq-true}
 use Rattle.flp_lang.specs.declared.token.Token.{Token}
 use Rattle.flp_lang.specs.declared.token.Token.TheVariants.{Number, Name, Fixed}
 use Rattle.flp_lang.specs.declared.token.Mark.{Mark}
@@ -454,55 +454,51 @@ more_coefs_end l k K (Number n ∷ s) h = cc
 more_coefs_end l k K (t ∷ s) h = refl
 
 -- standard circuits
-pub setting_there : (l : ℕ × ℕ) (k k' : ℕ) (name n : List ℕ) (K : ℕ → Plan) (s s' : List Token) → s ≡ Name n ∷ s' → k' ≡ suc k → bytes_eq name n ≡ true → run l k (next (plan.setting name) K) s ≡ run l k' (fixed Equals (next plan.a_numeral K)) s'
+pub setting_there : (l : ℕ × ℕ) (k k' : ℕ) (name : List ℕ) (K : ℕ → Plan) (s s' : List Token) → s ≡ Name name ∷ s' → k' ≡ suc k → run l k (next (plan.setting name) K) s ≡ run l k' (fixed Equals (next plan.a_numeral K)) s'
 unfolding run
-setting_there l k k' name n K s s' e i h = rw (e, i, h) refl
+setting_there l k k' name K s s' e i = rw (e, i, bytes_eq-self name) refl
 
-pub setting_other : (l : ℕ × ℕ) (k : ℕ) (name n : List ℕ) (K : ℕ → Plan) (s s' : List Token) → s ≡ Name n ∷ s' → bytes_eq name n ≡ false → run l k (next (plan.setting name) K) s ≡ bad k
-unfolding run
-setting_other l k name n K s s' e h = rw (e, h) refl
-
-pub setting_missing : (l : ℕ × ℕ) (k : ℕ) (name : List ℕ) (K : ℕ → Plan) (s : List Token) → IsNoName s → run l k (next (plan.setting name) K) s ≡ bad k
+pub setting_missing : (l : ℕ × ℕ) (k : ℕ) (name : List ℕ) (K : ℕ → Plan) (s : List Token) → is_word name s ≡ false → run l k (next (plan.setting name) K) s ≡ bad k
 unfolding run
 setting_missing l k name K [] h = refl
 setting_missing l k name K (Number n ∷ s) h = refl
-setting_missing l k name K (Name n ∷ s) h = elim h [ ]
+setting_missing l k name K (Name n ∷ s) h = rw h refl
 setting_missing l k name K (Fixed m ∷ s) h = refl
 
-pub tail_sum : (l : ℕ × ℕ) (k : ℕ) (K : Params → Plan) (s : List Token) → is_next Sum s ≡ true → run l k (next plan.standard_tail K) s ≡ run l k (fixed Sum (next (plan.setting (codes "max")) (λ m. fixed Semicolon (K (params.Sum m))))) s
+-- the plan of a standard circuit behind its name
+abbrev pub plan_of : Which → (Params → Plan) → Option Plan
+plan_of whiches.Count K = Some (count_plan K)
+plan_of whiches.Sum K = Some (sum_circuit_plan K)
+plan_of whiches.SumVec K = Some (sumvec_plan K)
+plan_of whiches.Histogram K = Some (histogram_plan K)
+plan_of whiches.Multihot K = Some (multihot_plan K)
+plan_of whiches.Other K = None
+
+chosen : (b₁ b₂ b₃ b₄ : Bool) (K : Params → Plan) →
+    cond b₁ (Some (count_plan K)) (cond b₂ (Some (sumvec_plan K)) (cond b₃ (Some (histogram_plan K)) (cond b₄ (Some (multihot_plan K)) None)))
+    ≡ plan_of (cond b₁ whiches.Count (cond b₂ whiches.SumVec (cond b₃ whiches.Histogram (cond b₄ whiches.Multihot whiches.Other)))) K
+chosen true b₂ b₃ b₄ K = refl
+chosen false true b₃ b₄ K = refl
+chosen false false true b₄ K = refl
+chosen false false false true K = refl
+chosen false false false false K = refl
+
+named-tail : (l : ℕ × ℕ) (k : ℕ) (n : List ℕ) (K : Params → Plan) (s : List Token) → run l k (next plan.standard_tail K) (Name n ∷ s) ≡ go_on k false (plan_of (which_of n) K) (λ P. run l (suc k) P s)
 unfolding run
-tail_sum l k K [] h = cc
-tail_sum l k K (Fixed Sum ∷ s) h = refl
-tail_sum l k K (t ∷ s) h = cc
+named-tail l k n K s =
+    ap (λ (o : Option Plan). go_on k false (plan.or_else o None) (λ P. run l (suc k) P s)) (chosen (bytes_eq (codes "count") n) (bytes_eq (codes "sumvec") n) (bytes_eq (codes "histogram") n) (bytes_eq (codes "multihot") n) K)
+    ∙ or-none (plan_of (which_of n) K)
+  where
+    or-none : (o : Option Plan) → go_on k false (plan.or_else o None) (λ P. run l (suc k) P s) ≡ go_on k false o (λ P. run l (suc k) P s)
+    or-none (Some P) = refl
+    or-none None = refl
 
-pub tail_missing : (l : ℕ × ℕ) (k : ℕ) (K : Params → Plan) (s : List Token) → is_next Sum s ≡ false → IsNoName s → run l k (next plan.standard_tail K) s ≡ bad k
+pub tail_which : (l : ℕ × ℕ) (k k' : ℕ) (w : Which) (K : Params → Plan) (s s' : List Token) → which_starts s ≡ w → Skips k s k' s' → run l k (next plan.standard_tail K) s ≡ go_on k false (plan_of w K) (λ P. run l k' P s')
 unfolding run
-tail_missing l k K [] h i = refl
-tail_missing l k K (Fixed Sum ∷ s) h i = cc
-tail_missing l k K (Name n ∷ s) h i = elim i [ ]
-tail_missing l k K (t ∷ s) h i = refl
-
--- the plan behind the name of a standard circuit
-abbrev pub plan_of : Which → Option Plan → Option Plan → Option Plan → Option Plan → Option Plan
-plan_of whiches.Count p₁ p₂ p₃ p₄ = p₁
-plan_of whiches.SumVec p₁ p₂ p₃ p₄ = p₂
-plan_of whiches.Histogram p₁ p₂ p₃ p₄ = p₃
-plan_of whiches.Multihot p₁ p₂ p₃ p₄ = p₄
-plan_of whiches.Other p₁ p₂ p₃ p₄ = None
-
-chosen : (b₁ b₂ b₃ b₄ : Bool) (p₁ p₂ p₃ p₄ : Option Plan) (w : Which) → cond b₁ whiches.Count (cond b₂ whiches.SumVec (cond b₃ whiches.Histogram (cond b₄ whiches.Multihot whiches.Other))) ≡ w
-    → cond b₁ p₁ (cond b₂ p₂ (cond b₃ p₃ (cond b₄ p₄ None))) ≡ plan_of w p₁ p₂ p₃ p₄
-chosen true b₂ b₃ b₄ p₁ p₂ p₃ p₄ w e = rw (← e) refl
-chosen false true b₃ b₄ p₁ p₂ p₃ p₄ w e = rw (← e) refl
-chosen false false true b₄ p₁ p₂ p₃ p₄ w e = rw (← e) refl
-chosen false false false true p₁ p₂ p₃ p₄ w e = rw (← e) refl
-chosen false false false false p₁ p₂ p₃ p₄ w e = rw (← e) refl
-
-pub tail_named : (l : ℕ × ℕ) (k k' : ℕ) (n : List ℕ) (w : Which) (K : Params → Plan) (s s' : List Token) → s ≡ Name n ∷ s' → k' ≡ suc k → which_of n ≡ w
-    → run l k (next plan.standard_tail K) s ≡ go_on k false (plan_of w (Some (fixed Semicolon (K params.Count))) (Some (sumvec_plan K)) (Some (histogram_plan K)) (Some (multihot_plan K))) (λ P. run l k' P s')
-unfolding run
-tail_named l k k' n w K s s' e i h =
-    rw (e, i) (ap (λ (o : Option Plan). go_on k false (plan.or_else o None) (λ P. run l (suc k) P s')) (chosen (bytes_eq (codes "count") n) (bytes_eq (codes "sumvec") n) (bytes_eq (codes "histogram") n) (bytes_eq (codes "multihot") n) _ _ _ _ w h) ∙ ?)
+tail_which l k k' w K [] s' e h = rw (← e) refl
+tail_which l k k' w K (Name n ∷ s) s' e h = rw (← e, h.0, h.1) (named-tail l k n K s)
+tail_which l k k' w K (Fixed Sum ∷ s) s' e h = rw (← e, h.0, h.1) refl
+tail_which l k k' w K (t ∷ s) s' e h = rw (← e) refl
 
 -- the whole text
 pub body_head : (l : ℕ × ℕ) (k : ℕ) (K : Program → Plan) (s : List Token) → run l k (next plan.body K) s ≡ run l k (fixed Meas (next plan.a_numeral (λ m. fixed Semicolon (fixed Joint (next plan.a_numeral (λ j. fixed Semicolon (next plan.decl (λ v. next plan.more_decls (λ more. next plan.stmts (λ w. K (record { meas = m; joint = j; gadgets = v ∷ more; stmts = statements w }))))))))))) s
@@ -533,3 +529,22 @@ pub text_goes_on : (l : ℕ × ℕ) (k : ℕ) (c : Text) (s : List Token) → (s
 unfolding run
 text_goes_on l k c [] h = absurd (h refl)
 text_goes_on l k c (t ∷ s) h = refl
+
+-- a kind at the levels that it opens
+pub kind_flat : (level k : ℕ) (K : Kind → Plan) (v w : Kind) (s : List Token) → w ≡ v → psums v ≡ 0 → run (0, level) k (K v) s ≡ run (0, level + psums w) k (K w) s
+kind_flat level k K v w s e h =
+    let i : level ≡ level + psums v = omega arith in
+    ap (λ x. run (0, x) k (K v) s) i ∙ ap (λ (x : Kind). run (0, level + psums x) k (K x) s) (sym e)
+
+pub kind_read : (level k : ℕ) (K : Kind → Plan) (v w : Kind) (s : List Token) → w ≡ v → run (0, level + psums v) k (K v) s ≡ run (0, level + psums w) k (K w) s
+kind_read level k K v w s e = ap (λ (x : Kind). run (0, level + psums x) k (K x) s) (sym e)
+
+pub along_from : {A : Type 0} (l : ℕ × ℕ) (k : ℕ) (P : Plan) (s : List Token) (k₂ : ℕ) (P₂ : Plan) (s₂ : List Token) (r : Result A LangFault) (l' : A → ℕ × ℕ) (k' : ℕ) (P' : A → Plan) (s' : List Token) → run l k P s ≡ run l k₂ P₂ s₂ → Runs l k₂ P₂ s₂ r l' k' P' s' → Runs l k P s r l' k' P' s'
+along_from l k P s k₂ P₂ s₂ (Ok a) l' k' P' s' e h = e ∙ h
+along_from l k P s k₂ P₂ s₂ (Err fault) l' k' P' s' e h = subst (IsFault fault) (sym e) h
+
+pub word_taken : (word : List ℕ) (k k' : ℕ) (s s' : List Token) → is_word word s ≡ true → Skips k s k' s' → (s ≡ Name word ∷ s') × (k' ≡ suc k)
+word_taken word k k' [] s' h e = cc
+word_taken word k k' (Name n ∷ s) s' h e = let i = bytes_eq-true word n h in (rw (i, e.0) refl, e.1)
+word_taken word k k' (Number n ∷ s) s' h e = cc
+word_taken word k k' (Fixed m ∷ s) s' h e = cc

@@ -152,13 +152,32 @@ psums mul_kind = 0
 psums (poly_kind coefs) = 0
 psums (psum_kind count inner) = suc (psums inner)
 
--- which standard circuit a name is
+-- which standard circuit a name is, and what stands behind `use`
 abbrev pub which_of : List ℕ → Which
 which_of n =
     cond (bytes_eq (codes "count") n) whiches.Count
     (cond (bytes_eq (codes "sumvec") n) whiches.SumVec
     (cond (bytes_eq (codes "histogram") n) whiches.Histogram
     (cond (bytes_eq (codes "multihot") n) whiches.Multihot whiches.Other)))
+
+abbrev pub which_starts : List Token → Which
+which_starts (Name n ∷ s) = which_of n
+which_starts (Fixed Sum ∷ s) = whiches.Sum
+which_starts _ = whiches.Other
+
+-- one token less, where there is one
+abbrev pub Skips : ℕ → List Token → ℕ → List Token → Type 0
+Skips k [] k' s' = Unit {0}
+Skips k (t ∷ s) k' s' = (s' ≡ s) × (k' ≡ suc k)
+
+-- the name is taken, or it is not next
+abbrev pub is_word : List ℕ → List Token → Bool
+is_word word (Name n ∷ s) = bytes_eq word n
+is_word word _ = false
+
+abbrev pub TakesWord : List ℕ → ℕ → List Token → Bool → ℕ → List Token → Type 0
+TakesWord word k s true k' s' = (s ≡ Name word ∷ s') × (k' ≡ suc k)
+TakesWord word k s false k' s' = is_word word s ≡ false
 
 -- the plans of standard circuits behind their names
 abbrev pub sumvec_plan : (Params → Plan) → Plan
@@ -169,3 +188,9 @@ histogram_plan K = next (plan.setting (codes "length")) (λ l. next (plan.settin
 
 abbrev pub multihot_plan : (Params → Plan) → Plan
 multihot_plan K = next (plan.setting (codes "length")) (λ l. next (plan.setting (codes "weight")) (λ w. next (plan.setting (codes "chunk")) (λ c. fixed Semicolon (K (params.Multihot l w c)))))
+
+abbrev pub count_plan : (Params → Plan) → Plan
+count_plan K = fixed Semicolon (K params.Count)
+
+abbrev pub sum_circuit_plan : (Params → Plan) → Plan
+sum_circuit_plan K = next (plan.setting (codes "max")) (λ m. fixed Semicolon (K (params.Sum m)))

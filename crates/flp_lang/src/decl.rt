@@ -17,7 +17,7 @@ use flp_list::List;
 impl Parser<'_> {
     /// `decl { decl }`
     pub fn decls(&mut self) -> Result<Vec<Decl>, LangFault>
-        ensures runs { (K : List Declaration → Plan) → Runs (0, 0) self.old.at (next plan.decl (λ v. next plan.more_decls (λ more. K (v ∷ more)))) self.old.rest.now result (λ _. (0, 0)) self.new.at (λ v. K (map declaration_of v.items)) self.new.rest.now }
+        ensures { (K : List Declaration → Plan) → Runs (0, 0) self.old.at (next plan.decl (λ v. next plan.more_decls (λ more. K (v ∷ more)))) self.old.rest.now result (λ _. (0, 0)) self.new.at (λ v. K (map declaration_of v.items)) self.new.rest.now }
     {
         let first = self.decl()?;
         let mut decls = Vec::new(self.alloc);

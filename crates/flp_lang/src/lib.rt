@@ -6,16 +6,16 @@ mod expr;
 mod fault;
 mod index;
 mod lexer;
-mod text;
 mod parser;
 mod standard;
 mod stmt;
 mod syntax;
+mod text;
 mod token;
 
 pub use fault::{Counted, LangFault};
-pub use text::parse;
 pub use syntax::{
     Arg, Body, Circuit, Coef, Decl, Expr, Idx, IdxItem, Item, KindText, Params, Stmt,
 };
+pub use text::parse;
 pub use token::{Mark, Token};

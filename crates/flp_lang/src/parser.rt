@@ -5,7 +5,7 @@ ghost use Rattle.flp_lang.specs.Plan as plan;
 ghost use Rattle.flp_lang.specs.Tree.{Index};
 ghost use Rattle.flp_lang.specs.View.{index_of};
 ghost use Rattle.flp_lang.specs.Verdict.{moved};
-ghost use Rattle.flp_lang.specs.Run.{Runs, Eats, TakesSign, TakesNumber, TakesName, too_deep, is_next, start_of, starts_stmt, starts_coef};
+ghost use Rattle.flp_lang.specs.Run.{Runs, Eats, TakesSign, TakesNumber, TakesName, too_deep, is_next, start_of, starts_stmt, starts_coef, Skips, is_word, TakesWord};
 ghost use Rattle.flp_lang.specs.declared.token.Token.TheVariants.{Fixed};
 ghost use Rattle.flp_lang.specs.declared.token.Mark.TheVariants.{Open, OpenBracket, CloseBracket};
 
@@ -137,7 +137,7 @@ impl<'a> Parser<'a> {
     pub fn expect(&mut self, mark: Mark) -> Result<(), LangFault>
         ensures runs { (l : ℕ × ℕ) (P : Plan) → too_deep (Fixed mark) l ≡ false
             → Runs l self.old.at (fixed mark P) self.old.rest.now result (λ _. moved (Fixed mark) l) self.new.at (λ _. P) self.new.rest.now }
-        ensures left { length self.new.rest.now ≤ length self.old.rest.now }
+        ensures left { IfOk result (λ _. length self.new.rest.now < length self.old.rest.now) }
     {
         let at = self.at;
         if self.eat(mark) {
@@ -283,6 +283,40 @@ impl<'a> Parser<'a> {
             [Token::Number(_), ..] => true,
             [Token::Fixed(Mark::Minus), ..] => true,
             _ => false,
+        }
+    }
+
+    /// Whether this name is next.
+    fn is_word(&self, word: &[u8]) -> bool
+        ensures { result ≡ is_word word.now self.now.rest.now }
+    {
+        match self.rest {
+            [Token::Name(found), ..] => word == found.as_slice(),
+            _ => false,
+        }
+    }
+
+    /// Takes the name, if it is next.
+    pub fn word(&mut self, word: &[u8]) -> bool
+        ensures taken { TakesWord word.now self.old.at self.old.rest.now result self.new.at self.new.rest.now }
+    {
+        if self.is_word(word) {
+            self.skip();
+            return true;
+        }
+        false
+    }
+
+    /// Passes over a token.
+    pub fn skip(&mut self)
+        ensures { Skips self.old.at self.old.rest.now self.new.at self.new.rest.now }
+    {
+        match self.rest {
+            [_, rest @ ..] => {
+                self.rest = rest;
+                self.at += 1;
+            }
+            [] => {}
         }
     }
 }

@@ -19,7 +19,7 @@ use std::alloc::Global;
 impl Parser<'_> {
     /// `body = "meas" NUMBER ";" "joint" NUMBER ";" decl { decl } stmt { stmt }`
     fn body(&mut self) -> Result<Body, LangFault>
-        ensures runs { (K : Program → Plan) → Runs (0, 0) self.old.at (next plan.body K) self.old.rest.now result (λ _. (0, 0)) self.new.at (λ v. K (program_of v)) self.new.rest.now }
+        ensures { (K : Program → Plan) → Runs (0, 0) self.old.at (next plan.body K) self.old.rest.now result (λ _. (0, 0)) self.new.at (λ v. K (program_of v)) self.new.rest.now }
     {
         self.expect(Mark::Meas)?;
         let meas = self.expect_number()?;
@@ -39,7 +39,7 @@ impl Parser<'_> {
 
     /// `text = standard | body`
     fn circuit(&mut self) -> Result<Circuit, LangFault>
-        ensures runs { (K : Text → Plan) → Runs (0, 0) self.old.at (next plan.circuit K) self.old.rest.now result (λ _. (0, 0)) self.new.at (λ v. K (text_of v)) self.new.rest.now }
+        ensures { (K : Text → Plan) → Runs (0, 0) self.old.at (next plan.circuit K) self.old.rest.now result (λ _. (0, 0)) self.new.at (λ v. K (text_of v)) self.new.rest.now }
     {
         if self.is_next(Mark::Use) {
             self.expect(Mark::Use)?;

@@ -42,16 +42,17 @@ pub more_terms-returns-in_err-expr-in-Some-clause-runs : goal.more_terms-returns
 more_terms-returns-in_err-expr-in-Some-clause-runs t c = λ K.
     let K' = λ (more : List (Bool × Tree)). K (map item_of c.loop-minus.items.items ++ more) in
     fails _ _ _ _ _ _ _ _ _ _ c.from_residual.ensures _ (c.loop-minus.invariant.runs K ∙ moves.terms_sign _ _ _ c.in-Some.minus K' _ _ c.in-Some.ensures.taken.0 c.in-Some.ensures.taken.1)
-        (c.in_err-expr-in-Some.ensures.runs (λ v. next plan.terms (λ more. K' ((c.in-Some.minus, v) ∷ more))))
+    (c.in_err-expr-in-Some.ensures.runs (λ v. next plan.terms (λ more. K' ((c.in-Some.minus, v) ∷ more))))
 
 pub more_terms-loop-minus-preserved : goal.more_terms-loop-minus-preserved
 more_terms-loop-minus-preserved t c = record {
   runs = λ K.
-    let K' = λ (more : List (Bool × Tree)). K (map item_of c.loop-minus.items.items ++ more) in
-    c.loop-minus.invariant.runs K ∙ moves.terms_sign _ _ _ c.in-Some.minus K' _ _ c.in-Some.ensures.taken.0 c.in-Some.ensures.taken.1
-    ∙ c.in_ok-expr-in-Some.ensures.runs (λ v. next plan.terms (λ more. K' ((c.in-Some.minus, v) ∷ more)))
-    ∙ more_read item_of (next plan.terms) _ _ _ K _ _ _ _ (item_of_roll c.in-Some.minus c.in_ok-expr-in-Some.expr) c.in_ok-push-in-Some.ensures.items;
-  left = omega (arith, c.in_ok-expr-in-Some.ensures.left, c.in-Some.ensures.left, c.loop-minus.invariant.left) }
+      let K' = λ (more : List (Bool × Tree)). K (map item_of c.loop-minus.items.items ++ more) in
+      c.loop-minus.invariant.runs K ∙ moves.terms_sign _ _ _ c.in-Some.minus K' _ _ c.in-Some.ensures.taken.0 c.in-Some.ensures.taken.1
+      ∙ c.in_ok-expr-in-Some.ensures.runs (λ v. next plan.terms (λ more. K' ((c.in-Some.minus, v) ∷ more)))
+      ∙ more_read item_of (next plan.terms) _ _ _ K _ _ _ _ (item_of_roll c.in-Some.minus c.in_ok-expr-in-Some.expr) c.in_ok-push-in-Some.ensures.items;
+  left = omega (arith, c.in_ok-expr-in-Some.ensures.left, c.in-Some.ensures.left, c.loop-minus.invariant.left);
+}
 
 pub more_terms-returns-clause-runs : goal.more_terms-returns-clause-runs
 more_terms-returns-clause-runs t c = λ K. c.loop-minus.invariant.runs K ∙ moves.terms_end _ _ _ _ c.in-None.ensures.taken.0 ∙ all_read item_of _ _ _ _ _ K _ c.in-None.ensures.taken.1 c.in-None.ensures.taken.2
@@ -67,11 +68,12 @@ more_factors-loop-self-preserved t c =
     let e = rw c.loop-self-test.true at c.eat.ensures.eaten in
     record {
       runs = λ K.
-        let K' = λ (more : List Tree). K (map tree_of c.loop-self.factors.items ++ more) in
-        c.loop-self.invariant.runs K ∙ moves.factors_star _ _ _ K' _ _ e.0 e.1
-        ∙ c.in_ok-factor.ensures.runs (λ v. next plan.factors (λ more. K' (v ∷ more)))
-        ∙ more_read tree_of (next plan.factors) _ _ _ K _ _ _ _ refl c.in_ok-push.ensures.items;
-      left = omega (arith, c.in_ok-factor.ensures.left, c.eat.ensures.left, c.loop-self.invariant.left) }
+          let K' = λ (more : List Tree). K (map tree_of c.loop-self.factors.items ++ more) in
+          c.loop-self.invariant.runs K ∙ moves.factors_star _ _ _ K' _ _ e.0 e.1
+          ∙ c.in_ok-factor.ensures.runs (λ v. next plan.factors (λ more. K' (v ∷ more)))
+          ∙ more_read tree_of (next plan.factors) _ _ _ K _ _ _ _ refl c.in_ok-push.ensures.items;
+      left = omega (arith, c.in_ok-factor.ensures.left, c.eat.ensures.left, c.loop-self.invariant.left);
+    }
 
 pub more_factors-returns-clause-runs : goal.more_factors-returns-clause-runs
 more_factors-returns-clause-runs t c = λ K. let e = rw c.loop-self-test.false at c.eat.ensures.eaten in c.loop-self.invariant.runs K ∙ moves.factors_end _ _ _ _ e.0 ∙ all_read tree_of _ _ _ _ _ K _ e.1 e.2
@@ -82,8 +84,9 @@ args-returns-in_err-first-clause-runs t c = λ K. fails _ _ _ _ _ _ _ _ _ _ c.fr
 pub args-loop-self-init : goal.args-loop-self-init
 args-loop-self-init t c = record {
   runs = λ K. moves.args_head _ _ K _ ∙ c.in_ok-first.ensures.runs (λ v. next plan.more_args (λ more. K (v ∷ more)))
-    ∙ more_read arg_of (next plan.more_args) _ _ _ K [] _ c.in_ok-first.first _ refl (c.in_ok-push.ensures.items ∙ ap (λ xs. xs ++ c.in_ok-first.first ∷ []) c.new-args.ensures.items);
-  left = omega (arith, c.in_ok-first.ensures.left) }
+      ∙ more_read arg_of (next plan.more_args) _ _ _ K [] _ c.in_ok-first.first _ refl (c.in_ok-push.ensures.items ∙ ap (λ xs. xs ++ c.in_ok-first.first ∷ []) c.new-args.ensures.items);
+  left = omega (arith, c.in_ok-first.ensures.left);
+}
 
 pub args-returns-in_err-arg-clause-runs : goal.args-returns-in_err-arg-clause-runs
 args-returns-in_err-arg-clause-runs t c = λ K.
@@ -96,11 +99,12 @@ args-loop-self-preserved t c =
     let e = rw c.loop-self-test.true at c.eat.ensures.eaten in
     record {
       runs = λ K.
-        let K' = λ (more : List Argument). K (map arg_of c.loop-self.args.items ++ more) in
-        c.loop-self.invariant.runs K ∙ moves.more_args_comma _ _ _ K' _ _ e.0 e.1
-        ∙ c.in_ok-arg.ensures.runs (λ v. next plan.more_args (λ more. K' (v ∷ more)))
-        ∙ more_read arg_of (next plan.more_args) _ _ _ K _ _ _ _ refl c.in_ok-push-2.ensures.items;
-      left = omega (arith, c.in_ok-arg.ensures.left, c.eat.ensures.left, c.loop-self.invariant.left) }
+          let K' = λ (more : List Argument). K (map arg_of c.loop-self.args.items ++ more) in
+          c.loop-self.invariant.runs K ∙ moves.more_args_comma _ _ _ K' _ _ e.0 e.1
+          ∙ c.in_ok-arg.ensures.runs (λ v. next plan.more_args (λ more. K' (v ∷ more)))
+          ∙ more_read arg_of (next plan.more_args) _ _ _ K _ _ _ _ refl c.in_ok-push-2.ensures.items;
+      left = omega (arith, c.in_ok-arg.ensures.left, c.eat.ensures.left, c.loop-self.invariant.left);
+    }
 
 pub args-returns-clause-runs : goal.args-returns-clause-runs
 args-returns-clause-runs t c = λ K. let e = rw c.loop-self-test.false at c.eat.ensures.eaten in c.loop-self.invariant.runs K ∙ moves.more_args_end _ _ _ _ e.0 ∙ all_read arg_of _ _ _ _ _ K _ e.1 e.2
@@ -179,4 +183,3 @@ arg-returns-in_err-expect-2-clause-runs t c = λ K. fails _ _ _ _ _ _ _ _ _ _ c.
 
 pub arg-returns-clause-runs : goal.arg-returns-clause-runs
 arg-returns-clause-runs t c = λ K. moves.arg_each _ _ K _ (sym c.is_next.ensures ∙ c.if-not-is_next.false) ∙ c.in_ok-expect.ensures.runs (c.args.level, 0) (range (λ n from to. next plan.args (λ v. fixed Close (K (each_arg c.args.self.now.at n from to (arguments v)))))) refl ∙ c.in_ok-range.ensures.runs (λ n from to. next plan.args (λ v. fixed Close (K (each_arg c.args.self.now.at n from to (arguments v))))) ∙ c.in_ok-args.ensures.runs (λ v. fixed Close (K (each_arg c.args.self.now.at c.in_ok-range.range.name (index_of c.in_ok-range.range.from) (index_of c.in_ok-range.range.to) (arguments v)))) ∙ c.in_ok-expect-2.ensures.runs (c.in_ok-range.range.inner, 0) (K (each_arg c.args.self.now.at c.in_ok-range.range.name (index_of c.in_ok-range.range.from) (index_of c.in_ok-range.range.to) (arguments (map arg_of c.in_ok-args.args.items)))) refl ∙ level_closed _ _ _ _ _ c.in_ok-range.ensures.inner.0 ∙ value_read _ _ _ K _ _ (arg_of_Each _ _ _ _ _ ∙ ap (λ xs. each_arg c.args.self.now.at c.in_ok-range.range.name (index_of c.in_ok-range.range.from) (index_of c.in_ok-range.range.to) (arguments (map arg_of xs))) c.from_vec.ensures)
-
