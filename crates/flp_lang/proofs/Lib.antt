@@ -10,3 +10,4 @@ pub mod Digits
 pub mod Readings
 pub mod Moves
 pub mod Made
+pub mod Parsing
