@@ -11,3 +11,4 @@ pub mod Readings
 pub mod Moves
 pub mod Made
 pub mod Parsing
+pub mod OneVerdict

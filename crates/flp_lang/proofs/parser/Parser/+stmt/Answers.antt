@@ -17,8 +17,9 @@ stmts-returns-in_err-first-clause-runs t c = λ K. fails _ _ _ _ _ _ _ _ _ _ c.f
 pub stmts-loop-self-init : goal.stmts-loop-self-init
 stmts-loop-self-init t c = record {
   runs = λ K. moves.stmts_head _ _ K _ ∙ c.in_ok-first.ensures.runs (λ v. next plan.more_stmts (λ more. K (v ∷ more)))
-    ∙ more_read statement_of (next plan.more_stmts) _ _ _ K [] _ c.in_ok-first.first _ refl (c.in_ok-push.ensures.items ∙ ap (λ xs. xs ++ c.in_ok-first.first ∷ []) c.new-stmts.ensures.items);
-  left = omega (arith, c.in_ok-first.ensures.left) }
+      ∙ more_read statement_of (next plan.more_stmts) _ _ _ K [] _ c.in_ok-first.first _ refl (c.in_ok-push.ensures.items ∙ ap (λ xs. xs ++ c.in_ok-first.first ∷ []) c.new-stmts.ensures.items);
+  left = omega (arith, c.in_ok-first.ensures.left);
+}
 
 pub stmts-returns-in_err-stmt-clause-runs : goal.stmts-returns-in_err-stmt-clause-runs
 stmts-returns-in_err-stmt-clause-runs t c = λ K.
@@ -28,10 +29,11 @@ stmts-returns-in_err-stmt-clause-runs t c = λ K.
 pub stmts-loop-self-preserved : goal.stmts-loop-self-preserved
 stmts-loop-self-preserved t c = record {
   runs = λ K.
-    let K' = λ (more : List Statement). K (map statement_of c.loop-self.stmts.items ++ more) in
-    c.loop-self.invariant.runs K ∙ moves.more_stmts_more _ _ K' _ (sym c.starts_stmt.ensures ∙ c.loop-self-test.true) ∙ c.in_ok-stmt.ensures.runs (λ v. next plan.more_stmts (λ more. K' (v ∷ more)))
-    ∙ more_read statement_of (next plan.more_stmts) _ _ _ K _ _ _ _ refl c.in_ok-push-2.ensures.items;
-  left = omega (arith, c.in_ok-stmt.ensures.left, c.loop-self.invariant.left) }
+      let K' = λ (more : List Statement). K (map statement_of c.loop-self.stmts.items ++ more) in
+      c.loop-self.invariant.runs K ∙ moves.more_stmts_more _ _ K' _ (sym c.starts_stmt.ensures ∙ c.loop-self-test.true) ∙ c.in_ok-stmt.ensures.runs (λ v. next plan.more_stmts (λ more. K' (v ∷ more)))
+      ∙ more_read statement_of (next plan.more_stmts) _ _ _ K _ _ _ _ refl c.in_ok-push-2.ensures.items;
+  left = omega (arith, c.in_ok-stmt.ensures.left, c.loop-self.invariant.left);
+}
 
 pub stmts-returns-clause-runs : goal.stmts-returns-clause-runs
 stmts-returns-clause-runs t c = λ K. c.loop-self.invariant.runs K ∙ moves.more_stmts_end _ _ _ _ (sym c.starts_stmt.ensures ∙ c.loop-self-test.false) ∙ all_read statement_of _ _ _ _ _ K _ refl refl

@@ -19,7 +19,8 @@ decreases-stmts l = 3 * length l.self.now.rest.now + 2
 abbrev pub invariant-stmts-loop-self : goal.invariant-stmts-loop-self
 invariant-stmts-loop-self l = record {
   runs : (K : List Statement → Plan) → run (l.fn.level, 0) l.fn.self.at (next plan.stmts K) l.fn.self.rest.now ≡ run (l.fn.level, 0) l.self.at (next plan.more_stmts (λ more. K (map statement_of l.stmts.items ++ more))) l.self.rest.now;
-  left : length l.self.rest.now < length l.fn.self.rest.now }
+  left : length l.self.rest.now < length l.fn.self.rest.now;
+}
 
 abbrev pub decreases-stmts-loop-self : goal.decreases-stmts-loop-self
 decreases-stmts-loop-self l = length l.self.rest.now
