@@ -12,3 +12,4 @@ pub mod Moves
 pub mod Made
 pub mod Parsing
 pub mod OneVerdict
+pub mod WellFormed

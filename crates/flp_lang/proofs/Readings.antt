@@ -45,7 +45,7 @@ sized-front p byte more e = (front-positive p byte more e, front-le p (byte ∷ 
 comment-begins : (byte : ℕ) → (byte == 35) ≡ true → is_comment_byte byte ≡ true
 comment-begins byte e = rw (eqb-true byte 35 e) refl
 
-name-begins : (byte : ℕ) → is_letter byte ≡ true → is_name_byte byte ≡ true
+pub name-begins : (byte : ℕ) → is_letter byte ≡ true → is_name_byte byte ≡ true
 name-begins byte e = rw e refl
 
 sized-number : (byte : ℕ) (more : List ℕ) → is_digit byte ≡ true → Sized (byte ∷ more) (number_piece (take (prefix_len is_digit (byte ∷ more)) (byte ∷ more)))

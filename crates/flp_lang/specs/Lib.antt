@@ -7,3 +7,4 @@ pub mod Plan
 pub mod Run
 pub mod View
 pub mod Parsed
+pub mod WellFormed

@@ -9,6 +9,7 @@ ghost use Rattle.flp_lang.specs.Verdict.{Verdict, good, Judged};
 ghost use Rattle.flp_lang.specs.Tokens.{AreTokens, IsStuck};
 ghost use Rattle.flp_lang.specs.declared.token.Token.{Token};
 ghost use Rattle.flp_lang.specs.Parsed.{IsParsed, IsParseFault};
+ghost use Rattle.flp_lang.specs.WellFormed.{IsWellFormed};
 
 use crate::fault::LangFault;
 use crate::lexer::tokens_of;
@@ -74,6 +75,7 @@ fn parse_tokens(alloc: Global, tokens: &[Token]) -> Result<Circuit, LangFault>
 pub fn parse(alloc: Global, text: &[u8]) -> Result<Circuit, LangFault>
     ensures circuit { IfOk result (λ circuit. IsParsed text.now (text_of circuit)) }
     ensures fault { IfErr result (IsParseFault text.now) }
+    ensures well_formed { IfOk result (λ circuit. IsWellFormed (text_of circuit)) }
 {
     let tokens = tokens_of(alloc, text)?;
     parse_tokens(alloc, tokens.as_slice())
