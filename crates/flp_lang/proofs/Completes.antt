@@ -1,5 +1,5 @@
 -- What tokens complete a plan to a text, in the grammar's words.
-use Rattle.std.proofs.Common.{ℕ, suc, List, [], ◌∷◌, Option, None, Some, ◌≡◌, refl}
+use Rattle.std.proofs.Common.{ℕ, List, [], Option, None, Some, ◌≡◌}
 use Rattle.flp_lang.specs.Tree.{Text}
 use Rattle.flp_lang.specs.Plan.{Plan, done, next, Part, Value, Stands, nothing}
 use Rattle.flp_lang.specs.declared.token.Token.{Token}

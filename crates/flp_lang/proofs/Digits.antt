@@ -1,5 +1,5 @@
 -- The value of digits, read from the left.
-use Rattle.std.proofs.Common.{ℕ, suc, ◌+◌, ◌-◌, ◌*◌, ◌≤◌, ◌<◌, List, [], ◌∷◌, length, drop, get_or, ◌≡◌, refl, sym, ◌∙◌, add-one, drop-cons, arith}
+use Rattle.std.proofs.Common.{ℕ, ◌+◌, ◌-◌, ◌*◌, ◌≤◌, ◌<◌, List, [], ◌∷◌, length, drop, get_or, ◌≡◌, refl, add-one, drop-cons, arith}
 use Rattle.flp_lang.specs.Tokens.{digits_from, digits_value}
 
 -- further digits never lower it

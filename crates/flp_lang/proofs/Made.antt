@@ -1,12 +1,11 @@
 -- What the makers of sums and products make.
-use Rattle.std.proofs.Common.{ℕ, suc, ◌+◌, ◌<◌, Bool, true, false, List, [], ◌∷◌, length, map, ◌≡◌, refl, sym, ◌∙◌, ap, arith, ◌==◌}
+use Rattle.std.proofs.Common.{ℕ, ◌<◌, Bool, true, false, List, [], ◌∷◌, length, map, ◌≡◌, refl, ◌∙◌, arith, ◌==◌}
 use Rattle.std.proofs.lemmas.Bool.Decides.{nat_tests}
-use Rattle.std.specs.List.{insert}
 use Rattle.flp_lang.specs.declared.syntax.Expr.{Expr}
 use Rattle.flp_lang.specs.declared.syntax.Expr.TheVariants as expr
 use Rattle.flp_lang.specs.declared.syntax.Item.{Item, roll-Item}
 use Rattle.flp_lang.specs.View.{tree_of, item_of, tree_of_Add, tree_of_Mul, item_of_roll}
-use Rattle.flp_lang.specs.Tree.{Tree, tree_at, sum_of, product_of, Index, index_add, index_mul, index_items, indices, index_sum, index_product, index_at}
+use Rattle.flp_lang.specs.Tree.{tree_at, sum_of, product_of, index_sum, index_product, index_at}
 use Rattle.flp_lang.specs.View.{index_of, index_item_of, index_of_Add, index_of_Mul, index_item_of_roll}
 use Rattle.flp_lang.specs.declared.syntax.Idx.{Idx}
 use Rattle.flp_lang.specs.declared.syntax.Idx.TheVariants as idx

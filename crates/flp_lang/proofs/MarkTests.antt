@@ -1,5 +1,5 @@
 -- The tests of tokens say what they say.
-use Rattle.std.proofs.Common.{get_or, ℕ, Bool, true, false, List, [], ◌∷◌, ◌≡◌, refl, ◌∙◌, ap, sym, eqb}
+use Rattle.std.proofs.Common.{get_or, ℕ, true, List, [], ◌∷◌, ◌≡◌, refl, ◌∙◌, ap, sym}
 use Rattle.std.proofs.lemmas.Bool.{eqb-true, eq-eqb}
 use Rattle.std.proofs.lemmas.Slice.Eq.{bytes_eq-Decides}
 use Rattle.std.specs.Str.{bytes_eq}

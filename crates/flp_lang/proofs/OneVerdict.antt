@@ -1,5 +1,5 @@
 -- No list of tokens has two verdicts, no bytes have two readings, and so no text has two answers.
-use Rattle.std.proofs.Common.{ℕ, suc, ◌+◌, ◌≤◌, ◌<◌, List, [], ◌∷◌, ◌++◌, length, Option, None, Some, ◌≡◌, refl, sym, subst, ap, ◌∙◌, ◌⊎◌, inl, inr, append_assoc, length-append, arith, drop, option_to_list}
+use Rattle.std.proofs.Common.{ℕ, suc, ◌≤◌, ◌<◌, List, [], ◌∷◌, ◌++◌, length, Option, None, Some, ◌≡◌, refl, sym, subst, ap, ◌∙◌, ◌⊎◌, inl, inr, append_assoc, length-append, arith, drop}
 use Rattle.flp_lang.specs.Grammar.{IsText}
 use Rattle.flp_lang.specs.Tree.{Text}
 use Rattle.flp_lang.specs.Verdict.{Verdict, good, bad, deep, Viable, Stops, level_of, IsShallow, Judged}

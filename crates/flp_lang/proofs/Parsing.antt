@@ -1,12 +1,12 @@
 -- From the verdict on the tokens to what a text is parsed to.
-use Rattle.std.proofs.Common.{ℕ, ◌==◌, Bool, true, false, List, [], ◌∷◌, length, ◌≡◌, refl, sym, subst, ap, ◌∙◌, Result, Ok, Err, IfOk, IfErr, arith}
+use Rattle.std.proofs.Common.{ℕ, ◌==◌, true, false, List, [], ◌∷◌, length, ◌≡◌, refl, subst, ◌∙◌, Result, Ok, Err, IfOk, IfErr, arith}
 use Rattle.std.proofs.lemmas.Bool.{eqb-true}
 use Rattle.flp_lang.specs.Plan as plan
 use Rattle.flp_lang.specs.Plan.{next, done}
 use Rattle.flp_lang.specs.Run.{run, verdict, IsFault}
 use Rattle.flp_lang.specs.Tokens.{IsLexed}
 use Rattle.flp_lang.specs.Tree.{Text}
-use Rattle.flp_lang.specs.Verdict.{good, bad, deep, Judged}
+use Rattle.flp_lang.specs.Verdict.{good, bad, Judged}
 use Rattle.flp_lang.specs.View.{text_of}
 use Rattle.flp_lang.specs.Parsed.{IsParsed, IsParseFault}
 use Rattle.flp_lang.proofs.Verdicts.{judged}

@@ -1,6 +1,6 @@
 -- Readings of a text: one piece more, and that there is but one.
-use Rattle.std.proofs.Common.{ℕ, suc, ◌+◌, ◌-◌, ◌≤◌, ◌<◌, List, [], ◌∷◌, ◌++◌, length, drop, Option, None, Some, ◌≡◌, refl, sym, ◌∙◌, subst, ap, append_assoc, arith, option_to_list, Result, Ok, Err, IfOk, IfSome}
-use Rattle.std.proofs.Common.{Bool, true, false, cond, ◌||◌, ◌==◌, nat_lt, take, codes, length-take, length-drop, length-append, eqb}
+use Rattle.std.proofs.Common.{ℕ, ◌+◌, ◌-◌, ◌≤◌, ◌<◌, List, [], ◌∷◌, ◌++◌, length, drop, Option, None, Some, ◌≡◌, refl, sym, subst, ap, append_assoc, arith, option_to_list, Result, Ok, Err, IfOk, IfSome}
+use Rattle.std.proofs.Common.{Bool, true, false, cond, ◌==◌, nat_lt, take, codes, length-take, length-drop, length-append}
 use Rattle.std.proofs.lemmas.Bool.{eqb-true}
 use Rattle.std.proofs.lemmas.Grind.{common_steps}
 use Rattle.std.proofs.lemmas.List.Folds.{length-prefix_len}
@@ -8,7 +8,7 @@ use Rattle.std.specs.List.{prefix_len}
 use Rattle.std.specs.Str.{bytes_eq}
 use Rattle.flp_field.specs.Word.{modulus}
 use Rattle.flp_lang.proofs.MarkTests.{bytes_eq-true}
-use Rattle.flp_lang.specs.Tokens.{Reads, nothing_read, piece_read, piece_of, is_blank, is_letter, is_digit, is_name_byte, is_comment_byte, digits_value, reserved, symbol, word_token, number_piece, symbol_piece}
+use Rattle.flp_lang.specs.Tokens.{Reads, nothing_read, piece_read, piece_of, is_blank, is_letter, is_digit, is_name_byte, is_comment_byte, digits_value, symbol, number_piece, symbol_piece}
 use Rattle.flp_lang.specs.declared.token.Mark.{Mark}
 use Rattle.flp_lang.specs.declared.token.Mark.TheVariants.{DotDot}
 use Rattle.flp_lang.specs.declared.token.Token.TheVariants.{Number, Fixed}

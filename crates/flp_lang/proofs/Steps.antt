@@ -1,5 +1,5 @@
 -- One token, and the end of the tokens: a plan is completed from there on exactly where the plan behind is.
-use Rattle.std.proofs.Common.{ℕ, suc, Bool, true, false, List, [], ◌∷◌, Option, None, Some, ◌≡◌, refl, sym, subst, ◌∙◌, ap, ◌⊎◌, inl, inr}
+use Rattle.std.proofs.Common.{ℕ, suc, Bool, true, false, List, [], ◌∷◌, Option, None, Some, ◌≡◌, refl, subst, ap, ◌⊎◌, inl, inr}
 use Rattle.flp_lang.specs.Tree.{Text}
 use Rattle.flp_lang.specs.Plan.{Plan, done, next, Part, Value, Stands, start, nothing, skipped, or_else, after_token, at_end}
 use Rattle.flp_lang.proofs.Completes.{Completes, Lives, Passed}

@@ -1,5 +1,5 @@
 -- The verdict on a list of tokens is what it is judged to be, and no list has two.
-use Rattle.std.proofs.Common.{ℕ, suc, ◌+◌, ◌-◌, ◌≤◌, ◌<◌, Bool, true, false, List, [], ◌∷◌, ◌++◌, length, Option, None, Some, ◌≡◌, refl, sym, subst, ◌∙◌, ap, arith}
+use Rattle.std.proofs.Common.{ℕ, suc, ◌+◌, ◌-◌, ◌≤◌, Bool, true, false, List, [], ◌∷◌, ◌++◌, length, Option, None, Some, ◌≡◌, refl, sym, subst, ap, arith}
 use Rattle.std.proofs.lemmas.Bool.Decides.{nat_tests}
 use Rattle.std.specs.Prelude.{nat_lt}
 use Rattle.flp_lang.specs.Tree.{Text}
@@ -7,12 +7,12 @@ use Rattle.flp_lang.specs.Grammar.{IsText}
 use Rattle.flp_lang.specs.Plan as plan
 use Rattle.flp_lang.specs.Plan.{Plan, done, next, after_token, at_end}
 use Rattle.flp_lang.specs.Run.{run, go_on, finish, too_deep, verdict}
-use Rattle.flp_lang.specs.Verdict.{Verdict, good, bad, deep, Viable, Stops, moved, levels_after, level_of, IsShallow, Judged}
+use Rattle.flp_lang.specs.Verdict.{Verdict, good, bad, deep, Stops, moved, levels_after, Judged}
 use Rattle.flp_lang.proofs.Completes.{Completes, Lives}
 use Rattle.flp_lang.proofs.Follow.{Follows, FollowsOption, follows_after, follows_whole}
 use Rattle.flp_lang.proofs.Steps.{forward, backward, ends, ends_back, goes}
 use Rattle.flp_lang.specs.declared.token.Token.{Token}
-use Rattle.flp_lang.specs.declared.token.Token.TheVariants.{Number, Name, Fixed}
+use Rattle.flp_lang.specs.declared.token.Token.TheVariants.{Fixed}
 use Rattle.flp_lang.specs.declared.token.Mark.TheVariants.{Psum, Semicolon, OpenBracket, CloseBracket, Open, Close}
 
 abbrev total : ℕ × ℕ → ℕ

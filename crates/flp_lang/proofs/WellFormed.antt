@@ -1,8 +1,8 @@
 -- What the parser makes of a text is well formed.
-use Rattle.std.proofs.Common.{ℕ, suc, ◌+◌, ◌≤◌, ◌<◌, ◌≡◌, Bool, true, false, ◌&&◌, List, [], ◌∷◌, length, Option, None, Some, refl, sym, subst, ap, ◌∙◌, arith, drop, take, option_to_list, cond, ◌++◌, length-append}
-use Rattle.flp_lang.specs.Grammar.{IsIndex, an_index, MoreIndexTerms, no_index_term, plus_index_term, minus_index_term, IsIndexTerm, an_index_term, MoreIndexFactors, no_index_factor, star_index_factor, IsIndexPrim, an_index_number, an_index_var, an_index_group, IsExpr, an_expr, a_minus_expr, MoreTerms, no_term, plus_term, minus_term, IsTerm, a_term, MoreFactors, no_factor, star_factor, IsFactor, a_factor, IsExponent, no_exponent, an_exponent, IsPrim, a_number, a_joint, a_meas, a_meas_or_zero, a_sum, a_call, a_var, a_group, IsArgs, some_args, MoreArgs, no_arg, comma_arg, IsArg, an_arg, an_each_arg, IsStmt, a_check, an_out, an_each, IsStmts, some_stmts, MoreStmts, no_stmt, one_more_stmt, IsCoef, a_coef, a_minus_coef, MoreCoefs, no_coef, one_more_coef, IsKind, a_mul, a_poly, a_psum, IsDecl, a_decl, MoreDecls, no_decl, one_more_decl, IsBody, a_body, IsSetting, a_setting, IsStandard, a_count, a_sum_circuit, a_sumvec, a_histogram, a_multihot, IsCircuit, a_standard, a_program}
-use Rattle.flp_lang.specs.Tree.{Index, index_number, index_var, index_add, index_mul, index_items, indices, index_sum, index_product, index_at, Tree, number, var, joint, meas, meas_or_zero, sum, call, add, mul, pow, items, trees, tree_at, sum_of, product_of, power_of, Argument, one, each_arg, arguments, Statement, check, out, each, statements, Kind, Declaration, Program, Text, standard, program}
-use Rattle.std.proofs.Common.{◌||◌, ◌==◌, nat_lt, codes, Result, Ok, Err, IfOk}
+use Rattle.std.proofs.Common.{ℕ, suc, ◌+◌, ◌≤◌, ◌<◌, ◌≡◌, Bool, true, false, List, [], ◌∷◌, length, Option, None, Some, refl, sym, subst, arith, take, option_to_list, cond, ◌++◌}
+use Rattle.flp_lang.specs.Grammar.{IsIndex, an_index, MoreIndexTerms, no_index_term, plus_index_term, minus_index_term, IsIndexTerm, an_index_term, MoreIndexFactors, no_index_factor, star_index_factor, IsIndexPrim, an_index_number, an_index_var, an_index_group, IsExpr, an_expr, a_minus_expr, MoreTerms, no_term, plus_term, minus_term, IsTerm, a_term, MoreFactors, no_factor, star_factor, IsFactor, a_factor, IsExponent, no_exponent, an_exponent, IsPrim, a_number, a_joint, a_meas, a_meas_or_zero, a_sum, a_call, a_var, a_group, IsArgs, some_args, MoreArgs, no_arg, comma_arg, IsArg, an_arg, an_each_arg, IsStmt, a_check, an_out, an_each, IsStmts, some_stmts, MoreStmts, no_stmt, one_more_stmt, IsCoef, a_coef, a_minus_coef, MoreCoefs, no_coef, one_more_coef, IsKind, a_mul, a_poly, a_psum, IsDecl, a_decl, MoreDecls, no_decl, one_more_decl, IsBody, a_body, IsCircuit, a_standard, a_program}
+use Rattle.flp_lang.specs.Tree.{Index, index_number, index_var, index_add, index_mul, index_items, indices, index_sum, index_product, index_at, Tree, number, var, joint, meas, meas_or_zero, sum, call, add, mul, pow, items, trees, tree_at, sum_of, product_of, power_of, Argument, arguments, Statement, statements, Kind, Declaration, Program, Text}
+use Rattle.std.proofs.Common.{◌==◌, nat_lt, codes, Result, Ok, Err, IfOk}
 use Rattle.std.specs.List.{prefix_len}
 use Rattle.std.specs.Str.{bytes_eq}
 use Rattle.flp_field.specs.Word.{modulus}
@@ -15,7 +15,7 @@ use Rattle.flp_lang.proofs.Readings.{name-begins}
 use Rattle.flp_lang.specs.declared.fault.LangFault.{LangFault}
 use Rattle.flp_lang.specs.declared.syntax.Circuit.{Circuit}
 use Rattle.flp_lang.specs.declared.token.Mark.{Mark}
-use Rattle.flp_lang.specs.WellFormed.{IsUnreserved, are_name_bytes, IsName, IsPlace, IndexIsWell, IndexItemsAreWell, IndicesAreWell, TreeIsWell, ItemsAreWell, TreesAreWell, ArgumentIsWell, ArgumentsAreWell, HasArg, StatementIsWell, StatementsAreWell, HasStmt, HasOne, KindIsWell, DeclarationsAreWell, ProgramIsWell, IsWellFormed}
+use Rattle.flp_lang.specs.WellFormed.{IsUnreserved, are_name_bytes, IsName, IsPlace, IndexIsWell, IndexItemsAreWell, IndicesAreWell, TreeIsWell, ItemsAreWell, TreesAreWell, ArgumentIsWell, ArgumentsAreWell, HasArg, StatementIsWell, StatementsAreWell, HasStmt, KindIsWell, DeclarationsAreWell, ProgramIsWell, IsWellFormed}
 use Rattle.flp_lang.specs.declared.syntax.Coef.{Coef}
 use Rattle.flp_lang.specs.declared.token.Token.{Token}
 use Rattle.flp_lang.specs.declared.token.Token.TheVariants.{Number, Name, Fixed}

@@ -1,5 +1,5 @@
 -- Tokens told apart by tests.
-use Rattle.std.specs.Prelude.{ℕ, Bool, true, false, List, [], ◌∷◌, Option, None, Some, eqb}
+use Rattle.std.specs.Prelude.{ℕ, Bool, false, eqb}
 use Rattle.flp_lang.specs.declared.token.Token.{Token}
 use Rattle.flp_lang.specs.declared.token.Token.TheVariants.{Number, Name, Fixed}
 use Rattle.flp_lang.specs.declared.token.Mark.{Mark}

@@ -1,6 +1,6 @@
 -- What is still to come of a circuit text while it is read, token by token: a plan is a part and, for each value of it, the plan after it.
 -- Internal: the promises speak of the grammar alone.
-use Rattle.std.specs.Prelude.{ℕ, ◌+◌, ◌-◌, suc, Bool, true, false, cond, List, [], ◌∷◌, Option, None, Some, ◌≡◌, codes}
+use Rattle.std.specs.Prelude.{ℕ, suc, Bool, true, false, cond, List, [], ◌∷◌, Option, None, Some, codes}
 use Rattle.std.specs.Str.{bytes_eq}
 use Rattle.flp_lang.specs.Tree.{Index, index_number, index_var, index_sum, index_product, Tree, number, var, joint, meas, meas_or_zero, sum, call, sum_of, product_of, power_of, Argument, one, each_arg, arguments, Statement, check, out, each, statements, Kind, mul_kind, poly_kind, psum_kind, Declaration, Program, Text, standard, program}
 use Rattle.flp_lang.specs.Grammar.{IsIndex, MoreIndexTerms, IsIndexTerm, MoreIndexFactors, IsIndexPrim, IsExpr, MoreTerms, IsTerm, MoreFactors, IsFactor, IsExponent, IsPrim, IsArgs, MoreArgs, IsArg, IsStmt, IsStmts, MoreStmts, IsCoef, MoreCoefs, IsKind, IsDecl, MoreDecls, IsBody, IsSetting, IsCircuit}

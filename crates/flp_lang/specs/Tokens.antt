@@ -1,10 +1,10 @@
 -- The tokens of a text, from the bytes up. The longest token is taken.
-use Rattle.std.specs.Prelude.{ℕ, ◌+◌, ◌-◌, ◌*◌, ◌<◌, ◌≤◌, Bool, true, false, ◌&&◌, ◌||◌, ◌==◌, nat_le, nat_lt, if◌then◌else◌, List, [], ◌∷◌, ◌++◌, length, take, drop, Option, None, Some, ◌≡◌, codes, option_to_list}
+use Rattle.std.specs.Prelude.{ℕ, ◌+◌, ◌-◌, ◌*◌, ◌<◌, ◌≤◌, Bool, ◌&&◌, ◌||◌, ◌==◌, nat_le, nat_lt, if◌then◌else◌, List, [], ◌∷◌, ◌++◌, length, take, drop, Option, None, Some, ◌≡◌, codes, option_to_list}
 use Rattle.std.specs.List.{prefix_len}
 use Rattle.std.specs.Str.{bytes_eq}
 use Rattle.flp_field.specs.Word.{modulus}
 use Rattle.flp_lang.specs.declared.fault.LangFault.{LangFault}
-use Rattle.flp_lang.specs.declared.fault.LangFault.TheVariants.{Memory, TextLength, Lex, Depth}
+use Rattle.flp_lang.specs.declared.fault.LangFault.TheVariants.{Memory, TextLength, Lex}
 use Rattle.flp_lang.specs.declared.token.Token.{Token}
 use Rattle.flp_lang.specs.declared.token.Token.TheVariants.{Number, Name, Fixed}
 use Rattle.flp_lang.specs.declared.token.Mark.{Mark}

@@ -3,7 +3,7 @@ use Rattle.std.specs.Prelude.{ℕ, suc, ◌+◌, ◌-◌, ◌≤◌, ◌≡◌, 
 use Rattle.flp_lang.specs.Tree.{Text}
 use Rattle.flp_lang.specs.Grammar.{IsText}
 use Rattle.flp_lang.specs.declared.token.Token.{Token}
-use Rattle.flp_lang.specs.declared.token.Token.TheVariants.{Number, Name, Fixed}
+use Rattle.flp_lang.specs.declared.token.Token.TheVariants.{Fixed}
 use Rattle.flp_lang.specs.declared.token.Mark.TheVariants.{Psum, Semicolon, OpenBracket, CloseBracket, Open, Close}
 
 -- a text, the number of the token that is no good, or the number of the token that opens one level too many

@@ -1,11 +1,10 @@
 -- The syntax types of the program as plain data: what each of them holds.
-use Rattle.std.specs.Prelude.{ℕ, Bool, List, [], ◌∷◌, map, ◌≡◌, refl}
+use Rattle.std.specs.Prelude.{ℕ, Bool, List, map, ◌≡◌}
 use Rattle.std.proofs.Common.{sym, ◌∙◌, ap}
 use Rattle.std.specs.declared.boxed.Box.{Box}
 use Rattle.std.specs.declared.alloc.Global.{Global}
 use Rattle.flp_lang.specs.Tree.{Index, index_number, index_var, index_add, index_mul, index_items, indices, Tree, number, var, joint, meas, meas_or_zero, sum, call, add, mul, pow, items, trees, Argument, one, each_arg, arguments, Statement, check, out, each, statements, Kind, mul_kind, poly_kind, psum_kind, Declaration, Program, Text, standard, program}
 use Rattle.flp_lang.specs.declared.syntax.Coef.{Coef}
-use Rattle.flp_lang.specs.declared.syntax.Params.{Params}
 use Rattle.flp_lang.specs.declared.syntax.Idx.{Idx, fold-Idx, fold-roll-Idx}
 use Rattle.flp_lang.specs.declared.syntax.Idx.TheOpen as idx_open
 use Rattle.flp_lang.specs.declared.syntax.Idx.TheOpen.{Idx-F, IdxItem-F}

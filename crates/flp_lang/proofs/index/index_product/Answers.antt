@@ -1,4 +1,4 @@
-use Rattle.std.proofs.Common.{arith, ◌∙◌, sym}
+use Rattle.std.proofs.Common.{◌∙◌, sym}
 use Rattle.flp_lang.proofs.Made.{index_product_made, nonzero}
 use Rattle.flp_lang.proofs.index.index_product.Goals as goal
 

@@ -1,4 +1,4 @@
-use Rattle.std.proofs.Common.{◌∙◌, sym, subst}
+use Rattle.std.proofs.Common.{sym, subst}
 use Rattle.flp_lang.specs.Tokens.{IsLexed}
 use Rattle.flp_lang.proofs.Parsing.{parsed_ok, parsed_err}
 use Rattle.flp_lang.proofs.WellFormed.{parsed_well}
@@ -14,4 +14,4 @@ returns-clause-fault c = parsed_err c.args.text.now c.as_slice.result.now _ (sub
 pub returns-clause-well_formed : goal.returns-clause-well_formed
 returns-clause-well_formed c =
     parsed_well c.args.text.now c.as_slice.result.now _ (subst (IsLexed c.args.text.now) (sym c.as_slice.ensures.value) c.in_ok-tokens.ensures.tokens)
-        (subst (λ ts. length ts ≤ length c.args.text.now) (sym c.as_slice.ensures.value) c.in_ok-tokens.ensures.few) c.parse_tokens.ensures.circuit
+    (subst (λ ts. length ts ≤ length c.args.text.now) (sym c.as_slice.ensures.value) c.in_ok-tokens.ensures.few) c.parse_tokens.ensures.circuit

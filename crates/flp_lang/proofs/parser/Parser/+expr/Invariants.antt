@@ -1,4 +1,4 @@
-use Rattle.std.proofs.Common.{◌≡◌, ◌≤◌, ◌<◌, ◌+◌, ◌*◌, ◌++◌, ℕ, List, Bool, length, map}
+use Rattle.std.proofs.Common.{◌≡◌, ◌≤◌, ◌<◌, ◌+◌, ◌*◌, ◌++◌, List, Bool, length, map}
 use Rattle.flp_lang.specs.Tree.{Tree, Argument}
 use Rattle.flp_lang.specs.View.{tree_of, item_of, arg_of}
 use Rattle.flp_lang.specs.Plan as plan

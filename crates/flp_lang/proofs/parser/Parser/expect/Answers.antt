@@ -1,4 +1,3 @@
-use Rattle.std.proofs.Common.{arith, Bool, true, false, sym, ◌∙◌}
 use Rattle.flp_lang.proofs.Moves.{mark_there, mark_missing}
 use Rattle.flp_lang.proofs.parser.Parser.expect.Goals as goal
 

@@ -1,4 +1,3 @@
-use Rattle.std.proofs.Common.{arith, Bool, true, false, sym, ◌∙◌}
 use Rattle.flp_lang.proofs.Moves.{name_there, name_missing}
 use Rattle.flp_lang.proofs.parser.Parser.expect_name.Goals as goal
 

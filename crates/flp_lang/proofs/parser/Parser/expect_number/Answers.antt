@@ -1,4 +1,3 @@
-use Rattle.std.proofs.Common.{arith, Bool, true, false, sym, ◌∙◌}
 use Rattle.flp_lang.proofs.Moves.{number_there, number_missing}
 use Rattle.flp_lang.proofs.parser.Parser.expect_number.Goals as goal
 

@@ -1,4 +1,4 @@
-use Rattle.std.proofs.Common.{arith, Bool, true, false, sym, ◌∙◌}
+use Rattle.std.proofs.Common.{arith}
 use Rattle.flp_lang.proofs.Moves.{mark_missing, open_there, open_deep}
 use Rattle.flp_lang.proofs.parser.Parser.open.Goals as goal
 

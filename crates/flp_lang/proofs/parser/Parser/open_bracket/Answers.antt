@@ -1,4 +1,4 @@
-use Rattle.std.proofs.Common.{arith, Bool, true, false, sym, ◌∙◌}
+use Rattle.std.proofs.Common.{arith}
 use Rattle.flp_lang.proofs.Moves.{mark_missing, bracket_there, bracket_deep}
 use Rattle.flp_lang.proofs.parser.Parser.open_bracket.Goals as goal
 

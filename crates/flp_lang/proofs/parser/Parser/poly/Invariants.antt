@@ -1,4 +1,4 @@
-use Rattle.std.proofs.Common.{◌≡◌, ◌<◌, ◌++◌, ◌∷◌, List, length}
+use Rattle.std.proofs.Common.{◌≡◌, ◌<◌, ◌++◌, ◌∷◌, length}
 use Rattle.flp_lang.specs.Tree.{Kind, poly_kind}
 use Rattle.flp_lang.specs.Plan as plan
 use Rattle.flp_lang.specs.Plan.{Plan, next, fixed}
