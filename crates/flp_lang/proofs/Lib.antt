@@ -1,0 +1,15 @@
+pub mod MarkTests
+pub mod Completes
+pub mod Forward
+pub mod Backward
+pub mod Parts
+pub mod Follow
+pub mod Steps
+pub mod Verdicts
+pub mod Digits
+pub mod Readings
+pub mod Moves
+pub mod Made
+pub mod Parsing
+pub mod OneVerdict
+pub mod WellFormed

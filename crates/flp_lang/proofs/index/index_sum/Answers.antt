@@ -1,0 +1,6 @@
+use Rattle.std.proofs.Common.{◌∙◌, sym}
+use Rattle.flp_lang.proofs.Made.{index_sum_made, nonzero}
+use Rattle.flp_lang.proofs.index.index_sum.Goals as goal
+
+pub returns : goal.returns
+returns c = index_sum_made _ _ _ _ (nonzero _ _ (c.args.more.ok.0) (sym c.is_empty.ensures ∙ c.if-is_empty.false)) c.index_at-at.ensures (c.from_vec.ensures ∙ c.in_ok-insert.ensures.items)

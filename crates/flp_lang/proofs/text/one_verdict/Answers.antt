@@ -1,0 +1,5 @@
+use Rattle.flp_lang.proofs.OneVerdict.{one_verdict}
+use Rattle.flp_lang.proofs.text.one_verdict.Goals as goal
+
+pub returns : goal.returns
+returns c = one_verdict

@@ -1,0 +1,33 @@
+//! Circuit text: the language in which a circuit says when an encoding is valid.
+//!
+//! [`parse`] reads a text once, from left to right, and answers its syntax tree or the first fault. What a text is parsed to
+//! is stated apart from the parser: `specs/Tokens.antt` has the tokens of a text, `specs/Grammar.antt` the grammar as a
+//! relation between tokens and trees, `specs/Verdict.antt` which token is at fault, and `specs/Parsed.antt` all of it for
+//! bytes. [`one_reading`] and [`one_verdict`] are laws of these definitions alone: no text has two answers, so the clauses of
+//! `parse` say exactly when each answer comes, want of memory aside.
+//!
+//! The proof takes the tokens one at a time. `specs/Plan.antt` says what is still to come of a text: a part, and for each
+//! value of it the rest. Each part of the grammar is begun by tokens of its own, and what may follow a part begins
+//! otherwise, so one token decides how a plan goes on; and each plan can be completed. So the tokens before the first one
+//! that no plan takes can go on as a text, and with it they can't. The parser's functions, one for each rule, each lead
+//! from a plan to the plan behind their part, with the same verdict.
+#![tactic(auto)]
+
+mod decl;
+mod expr;
+mod fault;
+mod index;
+mod lexer;
+mod parser;
+mod standard;
+mod stmt;
+mod syntax;
+mod text;
+mod token;
+
+pub use fault::{Counted, LangFault};
+pub use syntax::{
+    Arg, Body, Circuit, Coef, Decl, Expr, Idx, IdxItem, Item, KindText, Params, Stmt,
+};
+pub use text::{one_reading, one_verdict, parse};
+pub use token::{Mark, Token};
