@@ -1,4 +1,4 @@
--- What the values and the formulas of a kind are made of.
+-- The laws of a gadget for kinds, and what their values and formulas are made of.
 use Rattle.std.specs.Prelude.{ℕ, ◌≡◌, ◌+◌, ◌-◌, ◌*◌, ◌≤◌, List, length, All}
 use Rattle.flp_field.specs.Word.{IsWord, AreWords}
 use Rattle.flp_gadget.specs.GadgetLaws.{GadgetLaw, IsWithinLimits}
@@ -8,6 +8,7 @@ use Rattle.flp_gadget.specs.KindTree.{KindTree, arity_of, degree_of, value_of, f
 abbrev pub KindsObeyLaw : Type 0
 KindsObeyLaw = (tree : KindTree) → GadgetLaw (arity_of tree) (degree_of tree) (value_of tree) (formula_of tree)
 
+-- and has an arity of 1 to 1,024 and a degree of 1 to 8
 abbrev pub KindsAreWithinLimits : Type 0
 KindsAreWithinLimits = (tree : KindTree) → IsKind tree → IsWithinLimits (arity_of tree) (degree_of tree)
 
@@ -19,7 +20,7 @@ ValueIsWord = (tree : KindTree) (xs : List ℕ) → IsWord (value_of tree xs)
 abbrev pub FormulaHasWords : Type 0
 FormulaHasWords = (tree : KindTree) (ps : List (List ℕ)) → IsKind tree → AreWords (formula_of tree ps)
 
--- at polynomials with n coefficients each, the formula has degree * (n - 1) + 1
+-- at polynomials with n coefficients each, and n at least 1, the formula has degree * (n - 1) + 1
 abbrev pub FormulaHasSize : Type 0
 FormulaHasSize =
     (tree : KindTree) (ps : List (List ℕ)) (n : ℕ) → IsKind tree → 1 ≤ n → length ps ≡ arity_of tree

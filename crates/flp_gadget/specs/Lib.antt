@@ -8,7 +8,7 @@ pub mod KindTree
 pub mod KindText
 -- a kind in its flat form: a leaf over consecutive groups
 pub mod FlatKind
--- what the values and the formulas of a kind are made of
+-- the laws for kinds, and what their values and formulas are made of
 pub mod FormulaLaws
 -- proofs, which define nothing: an impl may cite those of its laws from here alone. Why each type of gadget obeys them
 pub mod LawProofs

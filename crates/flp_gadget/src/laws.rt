@@ -27,8 +27,8 @@ pub fn values()
     ensures { ValueIsWord }
 {}
 
-/// At polynomials with n coefficients each, a kind of degree d gives d * (n - 1) + 1 coefficients; they are
-/// words.
+/// At as many polynomials as its arity, with n coefficients each and n at least 1, a kind of degree d gives
+/// d * (n - 1) + 1 coefficients. At any polynomials the coefficients that it gives are words.
 pub fn formulas()
     ensures words { FormulaHasWords }
     ensures size { FormulaHasSize }

@@ -28,8 +28,10 @@ fn bit_check(alloc: Global) -> Result<PolyEval, Fail>
     })
 }
 
-/// What a gadget says of itself, and its value where there are as many inputs as it takes.
+/// What a gadget says of itself, and its value where there are as many inputs as it takes. Its laws are
+/// called too, at each type of the tests.
 fn seen<G: Gadget>(gadget: &G, inputs: &[Fe]) -> (usize, usize, Option<u64>) {
+    laws::gadget(gadget);
     let arity = gadget.arity();
     let value = if inputs.len() == arity {
         Some(gadget.eval(inputs).value())
