@@ -41,8 +41,8 @@ pub fn determined_by_values()
 {}
 
 /// Each list of words whose number is a power of two up to 2^32 is the values, on the domain of that
-/// size, of one polynomial of as many coefficients. They are a transform too: that over the inverse of
-/// the root of unity, times the inverse of the size.
+/// size, of one polynomial of as many coefficients. The coefficients are a transform of the values: that
+/// over the inverse of the root of unity, times the inverse of the size.
 pub fn interpolation()
     ensures exists { InterpolationExists }
     ensures unique { InterpolationIsUnique }
