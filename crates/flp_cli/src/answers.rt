@@ -1,5 +1,5 @@
 //! The exit statuses and the lines on the error output.
-ghost use Rattle.std.specs.Prelude.{◌≡◌, ◌↔◌, ◌++◌, ◌^◌, ◌<◌, ◌≤◌, map, decimal, IsTrue, OnOk};
+ghost use Rattle.std.specs.Prelude.{◌≡◌, ◌↔◌, ◌++◌, map, decimal, IsTrue, OnOk};
 ghost use Rattle.std.specs.Io.KnownBytes.{Appends};
 ghost use Rattle.flp_io.specs.Faults.{HasCause};
 ghost use Rattle.flp_cli.specs.Answers.{IsJob, status_of, truncated_line, line_of_fault};

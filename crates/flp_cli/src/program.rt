@@ -1,5 +1,5 @@
 //! The top call, which does all that the program does.
-ghost use Rattle.std.specs.Prelude.{◌≡◌, ◌≢◌, ◌+◌, ◌^◌, ◌<◌, ◌≤◌, ◌⊎◌, ◌↔◌, ℕ, Bool, List, map, vec_len, Option, Ok, Err, Some, IsTrue, MatchResult, OnOk, OnErr, IfSome};
+ghost use Rattle.std.specs.Prelude.{◌≡◌, ◌≢◌, ◌<◌, ◌⊎◌, ◌↔◌, ℕ, List, map, vec_len, Ok, Err, Some, IsTrue, MatchResult, OnOk, OnErr, IfSome};
 ghost use Rattle.std.specs.Io.KnownBytes.{Appends, Keeps};
 ghost use Rattle.flp_io.specs.Faults.{Rose};
 ghost use Rattle.flp_report.specs.Batch.{fault_of};

@@ -1,5 +1,5 @@
 //! The lines that `verify` writes, each made in a buffer that is used again.
-ghost use Rattle.std.specs.Prelude.{◌≡◌, ◌++◌, List, ℕ, length, codes, decimal, OnOk};
+ghost use Rattle.std.specs.Prelude.{◌≡◌, ◌++◌, length, codes, decimal, OnOk};
 ghost use Rattle.hex.specs.Hex.{encode_lower};
 ghost use Rattle.flp_cli.specs.Text.{spelled, ending_text};
 
