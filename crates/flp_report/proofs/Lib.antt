@@ -1,7 +1,7 @@
-pub mod BatchLemmas
+pub mod CountBatchLemmas
 pub mod KnownLemmas
 pub mod PlacesLemmas
-pub mod RecordsLemmas
+pub mod CountRecordsLemmas
 pub mod SegmentLemmas
 pub mod WordsLemmas
 pub mod ReadsLemmas

@@ -2,6 +2,6 @@ pub mod Shape
 pub mod Words
 pub mod Record
 pub mod Segment
-pub mod Batch
-pub mod Reader
+pub mod CountBatch
+pub mod CountReader
 pub mod Reads

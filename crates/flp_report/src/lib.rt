@@ -7,28 +7,30 @@
 //!
 //! | To | Use |
 //! |---|---|
-//! | read a batch from a [`flp_io::Source`] | [`BatchReader`]: `head`, then `segment` over all reports, then `end` |
+//! | read a batch from a [`flp_io::Source`] | [`CountReader`]: `head`, then `segment` over all reports, then `end` |
 //! | hold the records that were read | [`Segment`], made once for a [`Shape`] and filled again and again |
 //! | look at one record | [`Record`], which `Segment::record_at` lends: its nonce, the parts of its shares, its words |
 //! | bring the bytes of words into the field | [`load`], where `Record::bad_word` found none |
 //!
 //! Today a batch is one of Count reports: two shares, one proof, the text `use count;` and no old
-//! claims, 120 bytes a report. Every other head or text is [`ReadFault::NotBuilt`]. The faults come
+//! claims, 120 bytes a report. Every other head or text is [`CountFault::NotBuilt`]. The faults come
 //! in one order: the input ends within the head, another head, it ends within the text, another
 //! text, it ends within the records, a byte follows the last record. A failed read is told where it
 //! happens, in place of what would follow.
 #![tactic(auto)]
 
-mod batch;
-mod fault;
+mod count;
+mod count_fault;
+#[cfg(test)]
+mod count_tests;
+mod header;
 mod record;
 mod segment;
 mod shape;
-#[cfg(test)]
-mod tests;
 
-pub use batch::{BatchReader, Header};
-pub use fault::{BatchFault, ReadFault};
+pub use count::CountReader;
+pub use count_fault::{CountBatchFault, CountFault};
+pub use header::Header;
 pub use record::{Record, load};
 pub use segment::Segment;
 pub use shape::{RECORD_LIMIT, Shape};

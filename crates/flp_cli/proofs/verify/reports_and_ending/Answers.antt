@@ -2,9 +2,9 @@ use Rattle.std.proofs.Common.{◌≡◌, ◌∙◌, ◌≤◌, ℕ, Ok, Err, Res
 use Rattle.std.specs.Prelude.{OnErr, IfSome}
 use Rattle.std.specs.Io.KnownBytes.{Keeps}
 use Rattle.std.proofs.KnownBytes.{Keeps-refl}
-use Rattle.flp_report.specs.Reader.{source_of}
-use Rattle.flp_report.specs.declared.fault.ReadFault.TheVariants as read
-use Rattle.flp_report.specs.declared.fault.BatchFault.TheVariants.{Trailing}
+use Rattle.flp_report.specs.CountReader.{source_of}
+use Rattle.flp_report.specs.declared.count_fault.CountFault.TheVariants as read
+use Rattle.flp_report.specs.declared.count_fault.CountBatchFault.TheVariants.{Trailing}
 use Rattle.flp_cli.specs.declared.fault.Fault.TheVariants.{Read, Batch}
 use Rattle.flp_cli.specs.Fault.{fault_from}
 use Rattle.flp_cli.specs.Engine.{StopsBefore}

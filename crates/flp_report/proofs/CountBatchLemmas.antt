@@ -7,10 +7,10 @@ use Rattle.std.specs.Cmp.Lexicographic.{pointwise}
 use Rattle.std.specs.List.{starts_with}
 use Rattle.byteorder.specs.Endian.{little_number}
 use Rattle.byteorder.specs.Numbers.{little_from-append}
-use Rattle.flp_report.specs.declared.fault.ReadFault.{ReadFault}
-use Rattle.flp_report.specs.declared.fault.ReadFault.TheVariants.{NotBuilt, Batch}
-use Rattle.flp_report.specs.declared.fault.BatchFault.TheVariants.{Truncated, Trailing}
-use Rattle.flp_report.specs.Batch.{count_head, count_text, has_count_head, has_count_text, reports_of, whole_of, truncated, fault_of, IsNumbers, IsText, IsHead, text_fault_of}
+use Rattle.flp_report.specs.declared.count_fault.CountFault.{CountFault}
+use Rattle.flp_report.specs.declared.count_fault.CountFault.TheVariants.{NotBuilt, Batch}
+use Rattle.flp_report.specs.declared.count_fault.CountBatchFault.TheVariants.{Truncated, Trailing}
+use Rattle.flp_report.specs.CountBatch.{count_head, count_text, has_count_head, has_count_text, reports_of, whole_of, truncated, fault_of, IsNumbers, IsText, IsHead, text_fault_of}
 
 -- a file shares the first bytes of its head with its front
 pub has_count_head-append : (front rest : List ℕ) → 28 ≤ length front → has_count_head (front ++ rest) ≡ has_count_head front
@@ -72,7 +72,7 @@ fault_of-behind front rest n numbers =
     rw (le-ltb (length (front ++ rest)) 32 long, same, has_count_text-behind front rest numbers.size) refl
 
 -- a file that ends within its text
-text-short : (front rest : List ℕ) (n : ℕ) (fault : ReadFault) → IsNumbers front n → length rest < 10 → text_fault_of rest ≡ Some fault → fault_of (front ++ rest) ≡ Some fault
+text-short : (front rest : List ℕ) (n : ℕ) (fault : CountFault) → IsNumbers front n → length rest < 10 → text_fault_of rest ≡ Some fault → fault_of (front ++ rest) ≡ Some fault
 text-short front rest n fault numbers short text =
     let size = length-append front rest in
     let whole : length (front ++ rest) ≡ 32 + length rest = omega (arith, size, numbers.size) in
@@ -82,7 +82,7 @@ text-short front rest n fault numbers short text =
     ∙ (rw (lt-ltb (length (front ++ rest)) 42 less, whole) refl ∙ (sym is ∙ text))
 
 -- a file with another text
-text-other : (front rest : List ℕ) (n : ℕ) (fault : ReadFault) → IsNumbers front n → 10 ≤ length rest → text_fault_of rest ≡ Some fault → fault_of (front ++ rest) ≡ Some fault
+text-other : (front rest : List ℕ) (n : ℕ) (fault : CountFault) → IsNumbers front n → 10 ≤ length rest → text_fault_of rest ≡ Some fault → fault_of (front ++ rest) ≡ Some fault
 text-other front rest n fault numbers long text =
     let size = length-append front rest in
     let longer : 42 ≤ length (front ++ rest) = omega (arith, size, numbers.size) in
@@ -99,7 +99,7 @@ text-other front rest n fault numbers long text =
     (cases_Bool (starts_with nat_eq rest count_text))
 
 -- a file that begins as it should goes on with the faults of its text
-pub fault_of-numbers : (front rest : List ℕ) (n : ℕ) (fault : ReadFault) → IsNumbers front n → text_fault_of rest ≡ Some fault → fault_of (front ++ rest) ≡ Some fault
+pub fault_of-numbers : (front rest : List ℕ) (n : ℕ) (fault : CountFault) → IsNumbers front n → text_fault_of rest ≡ Some fault → fault_of (front ++ rest) ≡ Some fault
 fault_of-numbers front rest n fault numbers text =
     ⊎_elim
     (λ (short : length rest < 10). text-short front rest n fault numbers short text)

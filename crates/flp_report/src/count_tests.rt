@@ -1,8 +1,8 @@
 //! The example batch read piece by piece, each fault with its numbers, and a record of another shape.
-use crate::BatchFault::{Trailing, Truncated};
-use crate::ReadFault::{Batch, NotBuilt};
+use crate::CountBatchFault::{Trailing, Truncated};
+use crate::CountFault::{Batch, NotBuilt};
 use crate::record::Record;
-use crate::{BatchReader, Header, Memory, ReadFault, Segment, Shape, load};
+use crate::{CountReader, Header, Memory, CountFault, Segment, Shape, load};
 use flp_field::{Fe, MODULUS};
 use flp_io::{MemorySource, Source};
 use flp_list::Bytes;
@@ -31,8 +31,8 @@ fn longer_file(alloc: Global) -> Result<Vec<u8>, Memory> {
 }
 
 // Reads a batch to its end and answers the number of its reports.
-fn read_to_end<S: Source>(alloc: Global, source: &mut S) -> Result<u32, ReadFault> {
-    let mut reader = BatchReader::new(source);
+fn read_to_end<S: Source>(alloc: Global, source: &mut S) -> Result<u32, CountFault> {
+    let mut reader = CountReader::new(source);
     let header = reader.head(alloc, None)?;
     let mut room = Segment::new(alloc, &Shape::COUNT, header.reports)?;
     reader.segment(header.reports, &mut room)?;
@@ -41,7 +41,7 @@ fn read_to_end<S: Source>(alloc: Global, source: &mut S) -> Result<u32, ReadFaul
 }
 
 // Bytes of the longer file that are changed, the size to which it is cut, and the answer.
-const READINGS: &[(&[(usize, u8)], usize, Result<u32, ReadFault>)] = &[
+const READINGS: &[(&[(usize, u8)], usize, Result<u32, CountFault>)] = &[
     (&[], 162, Ok(1)),
     (&[(28, 0)], 42, Ok(0)),
     (&[(28, 2)], 282, Ok(2)),
@@ -94,7 +94,7 @@ fn a_failed_read_is_told(rt: HostRuntime) -> Result<(), Fail> {
         let fails = [call].to_vec(rt.alloc())?;
         let mut source = MemorySource::new(EXAMPLE.to_vec(rt.alloc())?, 1, fails);
         let answer = if call < 163 {
-            Err(ReadFault::Failed)
+            Err(CountFault::Failed)
         } else {
             Ok(1)
         };
@@ -116,7 +116,7 @@ fn the_example_has_these_parts(rt: HostRuntime) -> Result<(), Fail> {
     assert_eq!(rt; file.len(), 282);
     file[226..234].copy_from_slice(&NO_WORD);
     let mut source = MemorySource::new(file, 1000, Vec::new(rt.alloc()));
-    let mut reader = BatchReader::new(&mut source);
+    let mut reader = CountReader::new(&mut source);
     let header = reader.head(rt.alloc(), None)?;
     let text = Bytes::from_vec(b"use count;".to_vec(rt.alloc())?);
     assert_eq!(rt;

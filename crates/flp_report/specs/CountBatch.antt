@@ -2,9 +2,9 @@
 use Rattle.std.specs.Prelude.{ℕ, zero, suc, ◌+◌, ◌-◌, ◌*◌, ◌/◌, ◌≡◌, min, List, [], ◌∷◌, ◌++◌, Bool, true, not, Option, Some, None, codes, nat_eq, nat_lt, if◌then◌else◌, length, take, drop}
 use Rattle.std.specs.List.{starts_with}
 use Rattle.byteorder.specs.Endian.{little_number}
-use Rattle.flp_report.specs.declared.fault.ReadFault.{ReadFault}
-use Rattle.flp_report.specs.declared.fault.ReadFault.TheVariants.{NotBuilt, Batch}
-use Rattle.flp_report.specs.declared.fault.BatchFault.TheVariants.{Truncated, Trailing}
+use Rattle.flp_report.specs.declared.count_fault.CountFault.{CountFault}
+use Rattle.flp_report.specs.declared.count_fault.CountFault.TheVariants.{NotBuilt, Batch}
+use Rattle.flp_report.specs.declared.count_fault.CountBatchFault.TheVariants.{Truncated, Trailing}
 
 -- a number below 256 in 4 bytes
 abbrev pub small_number : ℕ → List ℕ
@@ -33,11 +33,11 @@ abbrev pub whole_of : List ℕ → ℕ
 whole_of bytes = 42 + 120 * reports_of bytes
 
 -- the input ended before the bytes that were needed
-abbrev pub truncated : List ℕ → ℕ → Option ReadFault
+abbrev pub truncated : List ℕ → ℕ → Option CountFault
 truncated bytes need = Some (Batch (Truncated (length bytes) need))
 
 -- the first fault of a file, in the one order of faults, or none where it is a batch
-abbrev pub fault_of : List ℕ → Option ReadFault
+abbrev pub fault_of : List ℕ → Option CountFault
 fault_of bytes =
     if nat_lt (length bytes) 32 then truncated bytes 32
     else (if not (has_count_head bytes) then Some NotBuilt
@@ -68,7 +68,7 @@ pub record IsText (bytes : List ℕ) : Type 0 where
   pub text : starts_with nat_eq bytes count_text ≡ true
 
 -- the first fault up to the text of a file whose first 32 bytes have none, from what follows these
-abbrev pub text_fault_of : List ℕ → Option ReadFault
+abbrev pub text_fault_of : List ℕ → Option CountFault
 text_fault_of bytes =
     if nat_lt (length bytes) 10 then Some (Batch (Truncated (32 + length bytes) 42))
     else (if not (starts_with nat_eq bytes count_text) then Some NotBuilt

@@ -1,10 +1,10 @@
 use Rattle.std.proofs.Common.{◌≡◌, ◌+◌, ◌≤◌, ◌++◌, Some, length, arith}
 use Rattle.std.proofs.KnownBytes.{Consumes-trans}
-use Rattle.flp_report.specs.Batch.{fault_of, text_fault_of}
+use Rattle.flp_report.specs.CountBatch.{fault_of, text_fault_of}
 use Rattle.flp_report.proofs.KnownLemmas.{IfSome-before}
-use Rattle.flp_report.proofs.BatchLemmas.{fault_of-numbers, IsHead-joined}
+use Rattle.flp_report.proofs.CountBatchLemmas.{fault_of-numbers, IsHead-joined}
 use Rattle.flp_report.proofs.ReadsLemmas.{ConsumesAtMost-after}
-use Rattle.flp_report.proofs.batch.read_head.Goals as goal
+use Rattle.flp_report.proofs.count.read_head.Goals as goal
 
 pub returns-in-Err-clause-fault : goal.returns-in-Err-clause-fault
 returns-in-Err-clause-fault g c =

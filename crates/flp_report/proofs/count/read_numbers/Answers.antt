@@ -1,10 +1,10 @@
 use Rattle.std.proofs.Common.{◌≡◌, ◌≤◌, ◌++◌, length, false, Some, arith, sym, ◌∙◌, drop, length-append}
 use Rattle.byteorder.specs.Numbers.{little_from-take}
-use Rattle.flp_report.specs.declared.fault.ReadFault.TheVariants.{NotBuilt}
-use Rattle.flp_report.specs.Batch.{fault_of, has_count_head}
+use Rattle.flp_report.specs.declared.count_fault.CountFault.TheVariants.{NotBuilt}
+use Rattle.flp_report.specs.CountBatch.{fault_of, has_count_head}
 use Rattle.flp_report.proofs.KnownLemmas.{IfSome-consumed}
-use Rattle.flp_report.proofs.BatchLemmas.{has_count_head-append, fault_of-head}
-use Rattle.flp_report.proofs.batch.read_numbers.Goals as goal
+use Rattle.flp_report.proofs.CountBatchLemmas.{has_count_head-append, fault_of-head}
+use Rattle.flp_report.proofs.count.read_numbers.Goals as goal
 
 pub returns-then-not-starts_with-clause-fault : goal.returns-then-not-starts_with-clause-fault
 returns-then-not-starts_with-clause-fault g c =

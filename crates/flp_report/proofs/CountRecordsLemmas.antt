@@ -4,11 +4,11 @@ use Rattle.std.proofs.lemmas.Bool.{lt-ltb, le-ltb}
 use Rattle.std.proofs.lemmas.List.{take_at, drop_at}
 use Rattle.std.proofs.lemmas.List.Elements.{All-head, All-tail}
 use Rattle.std.specs.List.{concat, All}
-use Rattle.flp_report.specs.declared.fault.ReadFault.{ReadFault}
-use Rattle.flp_report.specs.declared.fault.ReadFault.TheVariants.{Batch}
-use Rattle.flp_report.specs.declared.fault.BatchFault.TheVariants.{Truncated, Trailing}
-use Rattle.flp_report.specs.Batch.{has_count_head, has_count_text, reports_of, whole_of, truncated, fault_of, records, whole_records, IsHead}
-use Rattle.flp_report.proofs.BatchLemmas.{has_count_head-append, has_count_text-append, reports_of-append}
+use Rattle.flp_report.specs.declared.count_fault.CountFault.{CountFault}
+use Rattle.flp_report.specs.declared.count_fault.CountFault.TheVariants.{Batch}
+use Rattle.flp_report.specs.declared.count_fault.CountBatchFault.TheVariants.{Truncated, Trailing}
+use Rattle.flp_report.specs.CountBatch.{has_count_head, has_count_text, reports_of, whole_of, truncated, fault_of, records, whole_records, IsHead}
+use Rattle.flp_report.proofs.CountBatchLemmas.{has_count_head-append, has_count_text-append, reports_of-append}
 
 -- a record has 120 bytes
 abbrev pub IsWhole : List ℕ → Type 0
