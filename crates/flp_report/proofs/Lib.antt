@@ -5,3 +5,6 @@ pub mod CountRecordsLemmas
 pub mod SegmentLemmas
 pub mod WordsLemmas
 pub mod ReadsLemmas
+pub mod HeadLemmas
+pub mod PiecesLemmas
+pub mod BatchLemmas

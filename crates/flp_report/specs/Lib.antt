@@ -1,7 +1,13 @@
 pub mod Shape
+pub mod Fault
+pub mod Head
+pub mod Pieces
+pub mod Batch
 pub mod Words
 pub mod Record
 pub mod Segment
 pub mod CountBatch
 pub mod CountReader
 pub mod Reads
+pub mod Nonces
+pub mod Reader

@@ -19,21 +19,29 @@
 //! happens, in place of what would follow.
 #![tactic(auto)]
 
+mod batch;
 mod count;
 mod count_fault;
 #[cfg(test)]
 mod count_tests;
+mod fault;
+mod head;
 mod header;
+mod nonces;
+mod read;
 mod record;
 mod segment;
 mod shape;
 
+pub use batch::BatchReader;
 pub use count::CountReader;
 pub use count_fault::{CountBatchFault, CountFault};
+pub use fault::{BatchFault, ReadFault};
 pub use header::Header;
+pub use nonces::Nonces;
 pub use record::{Record, load};
 pub use segment::Segment;
-pub use shape::{RECORD_LIMIT, Shape};
+pub use shape::{CLAIMS_LIMIT, FILE_LIMIT, RECORD_LIMIT, Shape};
 
 /// Want of memory, as std's allocators answer it.
 pub use std::alloc::AllocError as Memory;
