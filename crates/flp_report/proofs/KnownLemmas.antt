@@ -42,7 +42,7 @@ EndedShort-before old new front before done size wanted need b consumed count wi
       less = omega (arith, short.less, within);
       is = short.is ∙ ap (λ (n : ℕ). Truncated n need) places;
       known = IfSome-before (λ bytes. length bytes ≡ done + short.came) (λ bytes. length bytes ≡ short.came) old new front consumed short.known
-      (λ rest same. let all = length-append front rest in omega (arith, all, same, count));
+          (λ rest same. let all = length-append front rest in omega (arith, all, same, count));
     }
 
 -- what a reading that ended short says of the bytes that were left

@@ -8,3 +8,6 @@ pub mod ReadsLemmas
 pub mod HeadLemmas
 pub mod PiecesLemmas
 pub mod BatchLemmas
+pub mod LawLemmas
+pub mod WriteLemmas
+pub mod BackLemmas

@@ -84,6 +84,7 @@ records_before (Some fault) records = []
 -- the records of which all bytes are there and which stand in front of the first fault
 abbrev pub whole_records : Option ℕ → Shape → List ℕ → List (List ℕ)
 whole_records party shape bytes = records_before (front_fault party shape bytes) (records_of shape bytes)
+
 -- the bytes in front of the old claims of a batch without a fault up to there, and what they say
 pub record IsHead (party : Option ℕ) (bytes : List ℕ) (header : Header) : Type 0 where
   pub size : length bytes ≡ text_end 32 bytes

@@ -11,3 +11,4 @@ pub mod CountReader
 pub mod Reads
 pub mod Nonces
 pub mod Reader
+pub mod Layout

@@ -18,7 +18,7 @@ use flp_list::Bytes;
 use std::alloc::Global;
 
 /// The letters with which a batch begins.
-const LETTERS: [u8; 8] = *b"FLPBATCH";
+pub(crate) const LETTERS: [u8; 8] = *b"FLPBATCH";
 
 /// The bytes in front of the circuit text.
 const HEAD_BYTES: u64 = 32;

@@ -45,7 +45,10 @@ fn read_whole<S: Source>(
 {
     match fill(source, buf) {
         Ok(count) if count == buf.len() => Ok(()),
-        Ok(count) => Err(CountFault::Batch(CountBatchFault::Truncated(before + count as u64, need))),
+        Ok(count) => Err(CountFault::Batch(CountBatchFault::Truncated(
+            before + count as u64,
+            need,
+        ))),
         Err(_) => Err(CountFault::Failed),
     }
 }

@@ -2,7 +2,7 @@
 use crate::CountBatchFault::{Trailing, Truncated};
 use crate::CountFault::{Batch, NotBuilt};
 use crate::record::Record;
-use crate::{CountReader, Header, Memory, CountFault, Segment, Shape, load};
+use crate::{CountFault, CountReader, Header, Memory, Segment, Shape, load};
 use flp_field::{Fe, MODULUS};
 use flp_io::{MemorySource, Source};
 use flp_list::Bytes;
@@ -10,7 +10,8 @@ use std::alloc::Global;
 use std::test::Fail;
 
 // A batch of one Count report of the measurement 1, whose second share is all ones.
-const EXAMPLE: &[u8] = b"FLPBATCH\x01\0\0\0\x02\0\0\0\x01\0\0\0\x0a\0\0\0\0\0\0\0\x01\0\0\0\
+pub(crate) const EXAMPLE: &[u8] =
+    b"FLPBATCH\x01\0\0\0\x02\0\0\0\x01\0\0\0\x0a\0\0\0\0\0\0\0\x01\0\0\0\
     use count;\
     \x00\x01\x02\x03\x04\x05\x06\x07\x08\x09\x0a\x0b\x0c\x0d\x0e\x0f\
     \0\0\0\0\0\0\0\0\x02\0\0\0\0\0\0\0\x04\0\0\0\0\0\0\0\
@@ -20,7 +21,7 @@ const EXAMPLE: &[u8] = b"FLPBATCH\x01\0\0\0\x02\0\0\0\x01\0\0\0\x0a\0\0\0\0\0\0\
     \x02\0\0\0\0\0\0\0";
 
 // The modulus in 8 bytes.
-const NO_WORD: [u8; 8] = [1, 0, 0, 0, 255, 255, 255, 255];
+pub(crate) const NO_WORD: [u8; 8] = [1, 0, 0, 0, 255, 255, 255, 255];
 
 // The example with its record once more, and one byte behind that.
 fn longer_file(alloc: Global) -> Result<Vec<u8>, Memory> {

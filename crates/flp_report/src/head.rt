@@ -114,7 +114,13 @@ pub(crate) fn read_head<S: Source>(
         Err(fault) => return Err(fault),
     }
     let length = number_at(head, 20);
-    match read_growing(alloc, source, length as usize, start, start + u64::from(length)) {
+    match read_growing(
+        alloc,
+        source,
+        length as usize,
+        start,
+        start + u64::from(length),
+    ) {
         Ok(text) => Ok(text),
         Err(fault) => Err(fault),
     }

@@ -27,21 +27,25 @@ mod count_tests;
 mod fault;
 mod head;
 mod header;
+mod laws;
 mod nonces;
 mod read;
 mod record;
 mod segment;
 mod shape;
+mod write;
 
 pub use batch::BatchReader;
 pub use count::CountReader;
 pub use count_fault::{CountBatchFault, CountFault};
 pub use fault::{BatchFault, ReadFault};
 pub use header::Header;
+pub use laws::{first_faults, read_records, reads_back};
 pub use nonces::Nonces;
 pub use record::{Record, load};
 pub use segment::Segment;
 pub use shape::{CLAIMS_LIMIT, FILE_LIMIT, RECORD_LIMIT, Shape};
+pub use write::{write_claims, write_head, write_record};
 
 /// Want of memory, as std's allocators answer it.
 pub use std::alloc::AllocError as Memory;

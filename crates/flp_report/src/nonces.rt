@@ -1,7 +1,6 @@
 //! The nonces of reports that were counted before.
 ghost use Rattle.std.specs.Prelude.{◌≡◌, ◌+◌, ◌*◌, ◌<◌, ◌≤◌, length, take, drop, nat_eq};
 
-
 /// A list of nonces of 16 bytes each, one after the other.
 #[derive(Debug, Drop)]
 pub struct Nonces {

@@ -33,10 +33,10 @@ pub(crate) fn read_whole<S: Source>(
 {
     match fill(source, buf) {
         Ok(count) if count == buf.len() => Ok(()),
-        Ok(count) => Err(ReadFault::Batch(BatchFault::Truncated(
-            before + count as u64,
-            need,
-        ))),
+        Ok(count) => {
+            let have = before + count as u64;
+            Err(ReadFault::Batch(BatchFault::Truncated(have, need)))
+        }
         Err(_) => Err(ReadFault::Failed),
     }
 }
