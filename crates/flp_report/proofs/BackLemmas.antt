@@ -1,21 +1,21 @@
 -- What is written as a batch is read as the same batch.
-use Rattle.std.proofs.Common.{◌≡◌, ℕ, ◌+◌, ◌-◌, ◌*◌, ◌^◌, ◌<◌, ◌≤◌, List, [], ◌∷◌, ◌++◌, length, take, drop, Option, Some, None, true, nat_lt, nat_le, nat_eq, refl, sym, ap, ◌∙◌, arith, append_assoc, append-nil, length-append, length-drop}
+use Rattle.std.proofs.Common.{◌≡◌, ℕ, ◌+◌, ◌*◌, ◌^◌, ◌<◌, ◌≤◌, List, [], ◌∷◌, ◌++◌, length, drop, Option, Some, None, true, nat_eq, refl, sym, ap, ◌∙◌, arith, append_assoc, append-nil, length-append, length-drop}
 use Rattle.std.specs.Prelude.{IfSome}
 use Rattle.std.specs.List.{All, concat, starts_with, flat_map}
-use Rattle.std.proofs.lemmas.Bool.{lt-ltb, le-ltb, lt-leb}
+use Rattle.std.proofs.lemmas.Bool.{le-ltb, lt-leb}
 use Rattle.std.proofs.lemmas.List.{drop_at, take-append-le, drop-append-le}
 use Rattle.byteorder.specs.Endian.{little_bytes}
 use Rattle.byteorder.specs.Numbers.{little_number-reads_back}
 use Rattle.flp_report.specs.declared.header.Header.{Header}
 use Rattle.flp_report.specs.declared.shape.Shape.{Shape}
 use Rattle.flp_report.specs.Shape.{bytes_of}
-use Rattle.flp_report.specs.Head.{number_at, party_fault, numbers_fault, text_end, IsStart}
+use Rattle.flp_report.specs.Head.{number_at, party_fault, numbers_fault, IsStart}
 use Rattle.flp_report.specs.Pieces.{pieces, fall_in}
-use Rattle.flp_report.specs.Batch.{batch_letters, header_of, large_fault, records_fault, fault_of, claims_of, whole_records, IsHead, IsInLimits, IsFront}
+use Rattle.flp_report.specs.Batch.{batch_letters, header_of, large_fault, records_fault, fault_of, claims_of, whole_records, IsHead, IsFront}
 use Rattle.flp_report.specs.Layout.{head_numbers, head_bytes, IsWritable}
 use Rattle.flp_report.proofs.HeadLemmas.{ended-none, number_at-append}
 use Rattle.flp_report.proofs.BatchLemmas.{IsHead-joined}
-use Rattle.flp_report.proofs.LawLemmas.{fault_of-records, whole_records-all, length-records, says, first_of-next}
+use Rattle.flp_report.proofs.LawLemmas.{fault_of-records, whole_records-all, length-records, says}
 use Rattle.flp_report.proofs.PiecesLemmas.{pieces-append}
 
 -- a party with a share has no fault
@@ -97,7 +97,7 @@ header_of-append front rest long text =
     rw (number_at-append 12 front rest e, number_at-append 16 front rest f, number_at-append 20 front rest g, number_at-append 24 front rest h, number_at-append 28 front rest i, drop-append-le 32 front rest long, take-append-le (number_at 20 front) (drop 32 front) rest held) refl
 
 -- a file that ends with its records
-records_fault-none : (before whole : ℕ) (rest : List ℕ) → before + length rest ≡ whole → records_fault before whole rest ≡ None
+pub records_fault-none : (before whole : ℕ) (rest : List ℕ) → before + length rest ≡ whole → records_fault before whole rest ≡ None
 records_fault-none before whole rest same =
     let reaches : whole ≤ before + length rest = omega (arith, same) in
     let within : before + length rest ≤ whole = omega (arith, same) in

@@ -1,13 +1,11 @@
 -- The first fault of a batch, from its parts.
-use Rattle.std.proofs.Common.{◌≡◌, ℕ, ◌+◌, ◌-◌, ◌*◌, ◌<◌, ◌≤◌, List, [], ◌∷◌, ◌++◌, length, take, drop, Option, Some, None, refl, sym, ap, ◌∙◌, arith, length-append}
+use Rattle.std.proofs.Common.{◌≡◌, ℕ, ◌+◌, ◌-◌, ◌*◌, ◌≤◌, List, ◌++◌, length, take, drop, Option, Some, None, refl, sym, ap, ◌∙◌, arith, length-append}
 use Rattle.std.proofs.Math.Nat.{add-mul}
 use Rattle.std.proofs.lemmas.List.{drop_at, take_all}
-use Rattle.flp_report.specs.declared.fault.BatchFault.{BatchFault}
 use Rattle.flp_report.specs.declared.fault.BatchFault.TheVariants.{ClaimsOrder}
-use Rattle.flp_report.specs.declared.header.Header.{Header}
-use Rattle.flp_report.specs.Head.{number_at, numbers_fault, text_end}
+use Rattle.flp_report.specs.Head.{number_at, numbers_fault}
 use Rattle.flp_report.specs.Pieces.{pieces, fall_in}
-use Rattle.flp_report.specs.Batch.{batch_letters, header_of, claims_fault, IsHead}
+use Rattle.flp_report.specs.Batch.{batch_letters, claims_fault, IsHead}
 use Rattle.flp_report.proofs.HeadLemmas.{ended-none, number_at-append, head_fault-none}
 use Rattle.flp_report.proofs.PiecesLemmas.{pieces-append}
 

@@ -1,13 +1,12 @@
 -- What a file whose head and first records are known is as a whole.
-use Rattle.std.proofs.Common.{◌≡◌, ℕ, zero, suc, ◌+◌, ◌-◌, ◌*◌, ◌/◌, ◌<◌, ◌≤◌, min, List, [], ◌∷◌, ◌++◌, length, take, drop, true, false, not, nat_lt, nat_eq, Option, Some, None, refl, sym, ap, subst, ◌∙◌, arith, append_assoc, append-nil, length-append}
+use Rattle.std.proofs.Common.{◌≡◌, ℕ, suc, ◌+◌, ◌-◌, ◌*◌, ◌/◌, ◌<◌, ◌≤◌, min, List, [], ◌∷◌, ◌++◌, length, take, drop, Some, None, refl, sym, ap, ◌∙◌, arith, append_assoc, append-nil, length-append}
 use Rattle.std.proofs.lemmas.Bool.{lt-ltb, le-ltb}
 use Rattle.std.proofs.lemmas.List.{take_at, drop_at}
 use Rattle.std.proofs.lemmas.List.Elements.{All-head, All-tail}
 use Rattle.std.specs.List.{concat, All}
-use Rattle.flp_report.specs.declared.count_fault.CountFault.{CountFault}
 use Rattle.flp_report.specs.declared.count_fault.CountFault.TheVariants.{Batch}
 use Rattle.flp_report.specs.declared.count_fault.CountBatchFault.TheVariants.{Truncated, Trailing}
-use Rattle.flp_report.specs.CountBatch.{has_count_head, has_count_text, reports_of, whole_of, truncated, fault_of, records, whole_records, IsHead}
+use Rattle.flp_report.specs.CountBatch.{whole_of, fault_of, records, whole_records, IsHead}
 use Rattle.flp_report.proofs.CountBatchLemmas.{has_count_head-append, has_count_text-append, reports_of-append}
 
 -- a record has 120 bytes

@@ -1,5 +1,5 @@
 -- The first fault of a head, from its parts, and what a file shares with its front.
-use Rattle.std.proofs.Common.{◌≡◌, ℕ, ◌+◌, ◌<◌, ◌≤◌, List, [], ◌∷◌, ◌++◌, length, take, drop, Option, Some, None, nat_lt, nat_eq, refl, sym, ap, ◌∙◌, arith, length-append, length-drop}
+use Rattle.std.proofs.Common.{◌≡◌, ℕ, ◌+◌, ◌<◌, ◌≤◌, List, [], ◌∷◌, ◌++◌, length, drop, Option, Some, None, nat_eq, refl, sym, ap, ◌∙◌, arith, length-append, length-drop}
 use Rattle.std.proofs.lemmas.Bool.{lt-ltb, le-ltb}
 use Rattle.std.proofs.lemmas.List.{take-append-le, drop-append-le, drop_at}
 use Rattle.std.specs.Cmp.Lexicographic.{pointwise}
@@ -8,8 +8,8 @@ use Rattle.byteorder.specs.Endian.{little_number}
 use Rattle.byteorder.specs.Numbers.{little_from-append}
 use Rattle.flp_report.specs.declared.fault.BatchFault.{BatchFault}
 use Rattle.flp_report.specs.declared.fault.BatchFault.TheVariants.{Truncated}
-use Rattle.flp_report.specs.Fault.{met, first_of, ended}
-use Rattle.flp_report.specs.Head.{number_at, party_fault, numbers_fault, start_fault, head_fault, text_end}
+use Rattle.flp_report.specs.Fault.{first_of, ended}
+use Rattle.flp_report.specs.Head.{number_at, numbers_fault, start_fault, head_fault}
 use Rattle.flp_report.specs.Reads.{EndedShort}
 
 -- where the input goes on, it has not ended

@@ -1,5 +1,5 @@
 -- The first fault and the whole records of a file, from what stands in front.
-use Rattle.std.proofs.Common.{◌≡◌, ℕ, zero, suc, ◌+◌, ◌-◌, ◌*◌, ◌/◌, ◌<◌, ◌≤◌, min, List, [], ◌∷◌, ◌++◌, length, take, drop, Option, Some, None, refl, sym, ap, subst, ◌∙◌, arith, append_assoc, append-nil, length-append, length-drop}
+use Rattle.std.proofs.Common.{◌≡◌, ℕ, suc, ◌+◌, ◌-◌, ◌*◌, ◌/◌, ◌≤◌, min, List, [], ◌∷◌, ◌++◌, length, take, drop, Option, Some, None, refl, sym, ap, ◌∙◌, arith, append_assoc, append-nil, length-append, length-drop}
 use Rattle.std.proofs.lemmas.Nat.{le-div}
 use Rattle.std.proofs.lemmas.List.{take_at, drop_at}
 use Rattle.std.proofs.lemmas.List.Elements.{All-head, All-tail}
@@ -8,10 +8,10 @@ use Rattle.flp_report.specs.declared.fault.BatchFault.{BatchFault}
 use Rattle.flp_report.specs.declared.header.Header.{Header}
 use Rattle.flp_report.specs.declared.shape.Shape.{Shape}
 use Rattle.flp_report.specs.Shape.{bytes_of}
-use Rattle.flp_report.specs.Fault.{first_of, ended}
+use Rattle.flp_report.specs.Fault.{first_of}
 use Rattle.flp_report.specs.Head.{number_at, text_end, numbers_fault, head_fault}
 use Rattle.flp_report.specs.Pieces.{pieces, fall_in}
-use Rattle.flp_report.specs.Batch.{batch_letters, header_of, large_fault, claims_fault, claims_end, size_of, records_fault, front_fault, fault_of, records_of, records_before, whole_records, IsHead, IsFront}
+use Rattle.flp_report.specs.Batch.{batch_letters, large_fault, claims_fault, claims_end, records_fault, front_fault, fault_of, whole_records, IsHead, IsFront}
 use Rattle.flp_report.proofs.HeadLemmas.{ended-none, number_at-append, numbers_fault-append}
 use Rattle.flp_report.proofs.PiecesLemmas.{pieces-append}
 

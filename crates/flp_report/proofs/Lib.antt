@@ -11,3 +11,6 @@ pub mod BatchLemmas
 pub mod LawLemmas
 pub mod WriteLemmas
 pub mod BackLemmas
+pub mod JobLemmas
+pub mod JobHeadLemmas
+pub mod PartFaultLemmas

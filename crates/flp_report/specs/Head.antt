@@ -1,5 +1,5 @@
 -- How a batch and a job file begin: letters, numbers of 4 bytes, and the circuit text. From the parts up.
-use Rattle.std.specs.Prelude.{ℕ, ◌+◌, ◌==◌, ◌<◌, ◌≤◌, IfSome, Bool, not, List, [], ◌∷◌, Option, Some, None, nat_eq, nat_lt, nat_le, drop}
+use Rattle.std.specs.Prelude.{ℕ, ◌+◌, ◌==◌, ◌<◌, ◌≤◌, IfSome, not, List, [], ◌∷◌, Option, Some, None, nat_eq, nat_lt, nat_le, drop}
 use Rattle.std.specs.List.{starts_with}
 use Rattle.byteorder.specs.Endian.{little_number}
 use Rattle.flp_report.specs.declared.fault.BatchFault.{BatchFault}

@@ -185,7 +185,8 @@ impl<'a, S: Source> BatchReader<'a, S> {
     }
 
     /// Reads the next `count` records into the room: at most the reports that are left, and at most
-    /// what the room holds, which was made for this reader's shape. It takes no memory.
+    /// what the room holds, which was made for this reader's shape, or one of as many bytes. It takes
+    /// no memory.
     ///
     /// An error is [`BatchFault::Truncated`] with the bytes of the file that came and those of the
     /// whole file, or [`ReadFault::Failed`]; the room then holds no record.
@@ -193,7 +194,7 @@ impl<'a, S: Source> BatchReader<'a, S> {
         requires shaped { IsShaped self.old }
         requires claims { claims_left self.old ≡ 0 }
         requires left { count ≤ reports_left self.old }
-        requires shape { shape_in room.old ≡ shape_given self.old }
+        requires shape { bytes_of (shape_in room.old) ≡ bytes_of (shape_given self.old) }
         requires room { count ≤ room_of room.old }
         ensures same { SameLoan self.old self.new }
         ensures records { OnOk result (Consumes (S.left (source_of self.old)) (S.left (source_of self.new)) (held_in room.new)) }

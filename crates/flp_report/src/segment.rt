@@ -10,7 +10,7 @@ use std::alloc::Global;
 
 /// Room for a number of records of one shape, and the records that the last reading left in it.
 ///
-/// It is made once, and [`CountReader::segment`](crate::CountReader::segment) fills it again and
+/// It is made once, and [`BatchReader::segment`](crate::BatchReader::segment) fills it again and
 /// again without taking memory.
 #[derive(Drop)]
 pub struct Segment {

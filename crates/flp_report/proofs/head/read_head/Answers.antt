@@ -1,8 +1,7 @@
-use Rattle.std.proofs.Common.{◌≡◌, ◌≤◌, ◌+◌, ◌++◌, Some, length, arith, sym, ap}
+use Rattle.std.proofs.Common.{◌≡◌, ◌≤◌, ◌+◌, ◌++◌, Some, length, arith}
 use Rattle.std.specs.Prelude.{IfSome}
 use Rattle.std.proofs.KnownBytes.{Consumes-trans}
-use Rattle.flp_report.specs.Fault.{first_of}
-use Rattle.flp_report.specs.Head.{head_fault, start_fault, number_at}
+use Rattle.flp_report.specs.Head.{head_fault}
 use Rattle.flp_report.proofs.KnownLemmas.{IfSome-map, IfBatch-map, IfSome-before, EndedShort-known}
 use Rattle.flp_report.proofs.ReadsLemmas.{ConsumesAtMost-after, ConsumesAtMost-more}
 use Rattle.flp_report.proofs.HeadLemmas.{first_of-two, head_fault-text}

@@ -1,4 +1,4 @@
-use Rattle.std.proofs.Common.{◌≡◌, ◌≤◌, Some, length, arith}
+use Rattle.std.proofs.Common.{◌≡◌, Some, length}
 use Rattle.flp_report.specs.Head.{start_fault}
 use Rattle.flp_report.proofs.KnownLemmas.{IfSome-consumed}
 use Rattle.flp_report.proofs.HeadLemmas.{start_fault-numbers}

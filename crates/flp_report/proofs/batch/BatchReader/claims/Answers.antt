@@ -1,4 +1,4 @@
-use Rattle.std.proofs.Common.{◌≡◌, Some, ◌∙◌, sym, ap}
+use Rattle.std.proofs.Common.{◌≡◌, Some, sym}
 use Rattle.flp_report.specs.declared.fault.BatchFault.TheVariants.{ClaimsOrder}
 use Rattle.flp_report.specs.Pieces.{pieces, fall_in}
 use Rattle.flp_report.specs.Batch.{claims_fault}

@@ -1,4 +1,3 @@
-use Rattle.std.proofs.Common.{◌≤◌, ◌≡◌, arith, subst, sym}
 use Rattle.flp_report.specs.Shape.{bytes_of}
 use Rattle.flp_report.proofs.BatchLemmas.{file_moves}
 use Rattle.flp_report.proofs.batch.BatchReader.segment.Goals as goal

@@ -1,4 +1,4 @@
-use Rattle.std.proofs.Common.{◌≡◌, ◌<◌, ◌∙◌, sym, arith}
+use Rattle.std.proofs.Common.{◌<◌, ◌∙◌, sym, arith}
 use Rattle.flp_report.proofs.PiecesLemmas.{fall_from-above, fall_from-other}
 use Rattle.flp_report.proofs.nonces.Nonces.first_fall.Goals as goal
 
