@@ -7,9 +7,9 @@ use Rattle.std.specs.Io.KnownBytes.{Consumes, Appends, Keeps, IsAtEnd}
 use Rattle.std.proofs.KnownBytes.{Consumes-trans, Consumes-nil, Appends-trans, Appends-nil}
 use Rattle.flp_io.specs.Writes.{TakesPrefix}
 use Rattle.flp_io.proofs.WriteLemmas.{TakesPrefix-refl, TakesPrefix-whole, TakesPrefix-after}
-use Rattle.flp_report.specs.declared.fault.BatchFault.{BatchFault}
-use Rattle.flp_report.specs.declared.fault.BatchFault.TheVariants.{Truncated, Trailing}
-use Rattle.flp_report.proofs.RecordsLemmas.{length-concat}
+use Rattle.flp_report.specs.declared.count_fault.CountBatchFault.{CountBatchFault}
+use Rattle.flp_report.specs.declared.count_fault.CountBatchFault.TheVariants.{Truncated, Trailing}
+use Rattle.flp_report.proofs.CountRecordsLemmas.{length-concat}
 use Rattle.flp_cli.specs.declared.progress.Progress.{Progress}
 use Rattle.flp_cli.specs.Progress.{Follows}
 use Rattle.flp_cli.specs.Verdicts.{judged, judged_after, count_of}
@@ -88,7 +88,7 @@ Stops-within left left' left'' taken taken' taken'' mid n m all few stop =
     }
 
 -- an end of the input within the next record is one within all that are left
-pub EndsWithin-after : (left left' taken taken' : Option (List ℕ)) (mid : Progress) (i n size place : ℕ) (fault : BatchFault)
+pub EndsWithin-after : (left left' taken taken' : Option (List ℕ)) (mid : Progress) (i n size place : ℕ) (fault : CountBatchFault)
     → Judges left left' taken taken' mid i → i < n → place ≡ 42 + 120 * i → EndsWithin left' place 1 size fault → EndsWithin left 42 n size fault
 EndsWithin-after None left' taken taken' mid i n size place fault all below at ends = record { short = tt; numbers = tt }
 EndsWithin-after (Some xs) None taken taken' mid i n size place fault all below at ends = absurd all.read
@@ -112,7 +112,7 @@ length-some [] some = absurd (some refl)
 length-some (x ∷ xs) some = omega arith
 
 -- bytes behind the last report
-pub GoesOn-after : (left left' taken taken' : Option (List ℕ)) (mid : Progress) (n : ℕ) (fault : BatchFault)
+pub GoesOn-after : (left left' taken taken' : Option (List ℕ)) (mid : Progress) (n : ℕ) (fault : CountBatchFault)
     → Judges left left' taken taken' mid n → IfSome left' (λ bytes. bytes ≢ []) → fault ≡ Trailing → GoesOn left n fault
 GoesOn-after None left' taken taken' mid n fault all more is = record { long = tt; trailing = is }
 GoesOn-after (Some xs) None taken taken' mid n fault all more is = absurd all.read

@@ -8,12 +8,12 @@ use Rattle.std.proofs.lemmas.List.Concat.{flat_map-append}
 use Rattle.flp_io.specs.Reads.{ConsumesSome}
 use Rattle.flp_io.specs.Writes.{TakesPrefix}
 use Rattle.flp_io.proofs.WriteLemmas.{TakesPrefix-more, TakesPrefix-refl}
-use Rattle.flp_report.specs.Batch.{fault_of, IsHead}
-use Rattle.flp_report.specs.declared.fault.ReadFault.{ReadFault}
-use Rattle.flp_report.specs.declared.fault.ReadFault.TheVariants as read
-use Rattle.flp_report.specs.declared.fault.BatchFault.{BatchFault}
-use Rattle.flp_report.specs.declared.fault.BatchFault.TheVariants.{Truncated}
-use Rattle.flp_report.proofs.RecordsLemmas.{length-concat, fault_of-cut, fault_of-trailing, fault_of-none, whole_records-front, whole_records-all}
+use Rattle.flp_report.specs.CountBatch.{fault_of, IsHead}
+use Rattle.flp_report.specs.declared.count_fault.CountFault.{CountFault}
+use Rattle.flp_report.specs.declared.count_fault.CountFault.TheVariants as read
+use Rattle.flp_report.specs.declared.count_fault.CountBatchFault.{CountBatchFault}
+use Rattle.flp_report.specs.declared.count_fault.CountBatchFault.TheVariants.{Truncated}
+use Rattle.flp_report.proofs.CountRecordsLemmas.{length-concat, fault_of-cut, fault_of-trailing, fault_of-none, whole_records-front, whole_records-all}
 use Rattle.flp_cli.specs.declared.fault.Fault.TheVariants as fault
 use Rattle.flp_cli.specs.Fault.{fault_from}
 use Rattle.flp_cli.specs.Policy.{Counts}
@@ -82,11 +82,11 @@ StopsInText-behind left mid left' taken taken' front n head read done =
     }
 
 -- bytes that end among the records are a file with that fault
-cut-file : (front : List ℕ) (n : ℕ) (why : BatchFault) (rest : List ℕ) → IsHead front n → length rest < 120 * n → why ≡ Truncated (42 + length rest) (42 + 120 * n)
+cut-file : (front : List ℕ) (n : ℕ) (why : CountBatchFault) (rest : List ℕ) → IsHead front n → length rest < 120 * n → why ≡ Truncated (42 + length rest) (42 + 120 * n)
     → fault_of (front ++ rest) ≡ Some (read.Batch why)
-cut-file front n why rest head short is = fault_of-cut front rest n head short ∙ ap (λ (f : BatchFault). Some (read.Batch f)) (sym is)
+cut-file front n why rest head short is = fault_of-cut front rest n head short ∙ ap (λ (f : CountBatchFault). Some (read.Batch f)) (sym is)
 
-pub refused-cut : (left mid : Option (List ℕ)) (front : List ℕ) (n : ℕ) (why : BatchFault)
+pub refused-cut : (left mid : Option (List ℕ)) (front : List ℕ) (n : ℕ) (why : CountBatchFault)
     → IsHead front n → Consumes left mid front → EndsWithin mid 42 n (42 + 120 * n) why → IfSome left (λ bytes. fault_of bytes ≡ Some (read.Batch why))
 refused-cut None mid front n why head gone ends = tt
 refused-cut (Some xs) None front n why head gone ends = absurd gone
@@ -94,22 +94,22 @@ refused-cut (Some xs) (Some ys) front n why head gone ends =
     let P : List ℕ → Type 0 = λ b. fault_of b ≡ Some (read.Batch why) in
     subst P (sym gone) (cut-file front n why ys head ends.short ends.numbers)
 
-pub refused-trailing : (left mid : Option (List ℕ)) (front : List ℕ) (n : ℕ) (why : BatchFault)
+pub refused-trailing : (left mid : Option (List ℕ)) (front : List ℕ) (n : ℕ) (why : CountBatchFault)
     → IsHead front n → Consumes left mid front → GoesOn mid n why → IfSome left (λ bytes. fault_of bytes ≡ Some (read.Batch why))
 refused-trailing None mid front n why head gone more = tt
 refused-trailing (Some xs) None front n why head gone more = absurd gone
 refused-trailing (Some xs) (Some ys) front n why head gone more =
     let P : List ℕ → Type 0 = λ b. fault_of b ≡ Some (read.Batch why) in
-    subst P (sym gone) (fault_of-trailing front ys n head more.long ∙ ap (λ (f : BatchFault). Some (read.Batch f)) (sym more.trailing))
+    subst P (sym gone) (fault_of-trailing front ys n head more.long ∙ ap (λ (f : CountBatchFault). Some (read.Batch f)) (sym more.trailing))
 
 -- which fault of a reader a refusal came from
-pub fault_from-batch : (f : ReadFault) (why : BatchFault) → fault_from f ≡ fault.Batch why → f ≡ read.Batch why
+pub fault_from-batch : (f : CountFault) (why : CountBatchFault) → fault_from f ≡ fault.Batch why → f ≡ read.Batch why
 fault_from-batch read.Memory why is = cc
 fault_from-batch read.Failed why is = cc
 fault_from-batch read.NotBuilt why is = cc
 fault_from-batch (read.Batch f) why is = cc
 
-pub fault_from-not_built : (f : ReadFault) → fault_from f ≡ fault.NotBuilt → f ≡ read.NotBuilt
+pub fault_from-not_built : (f : CountFault) → fault_from f ≡ fault.NotBuilt → f ≡ read.NotBuilt
 fault_from-not_built read.Memory is = cc
 fault_from-not_built read.Failed is = cc
 fault_from-not_built read.NotBuilt is = refl

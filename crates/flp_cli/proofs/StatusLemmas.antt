@@ -2,9 +2,9 @@
 use Rattle.std.proofs.Common.{◌≡◌, ℕ, ◌++◌, Option, Some, None, List, [], refl, sym, ap, subst, ◌∙◌, inl, inr, ◌⊎◌, arith, rules, append-nil}
 use Rattle.std.specs.Prelude.{IfSome, IsTrue}
 use Rattle.std.specs.Io.KnownBytes.{Appends, Keeps}
-use Rattle.flp_report.specs.declared.fault.ReadFault.TheVariants as read
-use Rattle.flp_report.specs.declared.fault.BatchFault.{BatchFault}
-use Rattle.flp_report.specs.Batch.{fault_of}
+use Rattle.flp_report.specs.declared.count_fault.CountFault.TheVariants as read
+use Rattle.flp_report.specs.declared.count_fault.CountBatchFault.{CountBatchFault}
+use Rattle.flp_report.specs.CountBatch.{fault_of}
 use Rattle.flp_cli.specs.declared.fault.Fault.{Fault}
 use Rattle.flp_cli.specs.declared.fault.Fault.TheVariants.{Memory, Read, Write, NotBuilt, Batch}
 use Rattle.flp_cli.specs.Answers.{is_status, status_of, status_for}
@@ -24,7 +24,7 @@ status-write Write is = refl
 status-write NotBuilt is = absurd (omega arith)
 status-write (Batch why) is = absurd (omega arith)
 
-pub status-batch : (f : Fault) → status_of f ≡ 6 → (why : BatchFault) × (f ≡ Batch why)
+pub status-batch : (f : Fault) → status_of f ≡ 6 → (why : CountBatchFault) × (f ≡ Batch why)
 status-batch Memory is = absurd (omega arith)
 status-batch Read is = absurd (omega arith)
 status-batch Write is = absurd (omega arith)
@@ -69,7 +69,7 @@ told (Some xs) bytes P is fact = let same : xs ≡ bytes = cc in subst P same fa
 
 -- without a fault of the input or the output, a run ends for want of memory or as its bytes decide
 pub decided : (f : Fault) (left : Option (List ℕ)) (bytes : List ℕ) → left ≡ Some bytes → (f ≡ Read → ⊥) → (f ≡ Write → ⊥)
-    → ((why : BatchFault) → f ≡ Batch why → IfSome left (λ b. fault_of b ≡ Some (read.Batch why)))
+    → ((why : CountBatchFault) → f ≡ Batch why → IfSome left (λ b. fault_of b ≡ Some (read.Batch why)))
     → (f ≡ NotBuilt → IfSome left (λ b. fault_of b ≡ Some read.NotBuilt))
     → (status_of f ≡ 3) ⊎ (status_of f ≡ status_for (fault_of bytes))
 decided Memory left bytes is not_read not_write refused not_built = inl refl

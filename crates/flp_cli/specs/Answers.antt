@@ -1,9 +1,9 @@
 -- What the program answers besides the text: the exit status, and the line on the error output.
 use Rattle.std.specs.Prelude.{◌≡◌, ℕ, Bool, List, [], ◌∷◌, ◌++◌, Option, Some, None, ◌==◌, if◌then◌else◌, codes, decimal, length, drop}
 use Rattle.std.specs.List.{list_any}
-use Rattle.flp_report.specs.declared.fault.ReadFault.{ReadFault}
-use Rattle.flp_report.specs.declared.fault.ReadFault.TheVariants as read
-use Rattle.flp_report.specs.declared.fault.BatchFault.TheVariants.{Truncated, Trailing}
+use Rattle.flp_report.specs.declared.count_fault.CountFault.{CountFault}
+use Rattle.flp_report.specs.declared.count_fault.CountFault.TheVariants as read
+use Rattle.flp_report.specs.declared.count_fault.CountBatchFault.TheVariants.{Truncated, Trailing}
 use Rattle.flp_cli.specs.declared.fault.Fault.{Fault}
 use Rattle.flp_cli.specs.declared.fault.Fault.TheVariants.{Memory, Read, Write, NotBuilt, Batch}
 
@@ -25,7 +25,7 @@ status_of (Batch fault) = 6
 status_of NotBuilt = 10
 
 -- the exit status that the bytes of the input alone decide
-abbrev pub status_for : Option ReadFault → ℕ
+abbrev pub status_for : Option CountFault → ℕ
 status_for None = 0
 status_for (Some read.Memory) = 3
 status_for (Some read.Failed) = 4

@@ -4,8 +4,8 @@ use Rattle.std.specs.List.{concat}
 use Rattle.std.specs.Io.KnownBytes.{Consumes, Appends, Keeps, IsAtEnd}
 use Rattle.flp_io.specs.Reads.{ConsumesSome}
 use Rattle.flp_io.specs.Writes.{TakesPrefix}
-use Rattle.flp_report.specs.declared.fault.BatchFault.{BatchFault}
-use Rattle.flp_report.specs.declared.fault.BatchFault.TheVariants.{Truncated, Trailing}
+use Rattle.flp_report.specs.declared.count_fault.CountBatchFault.{CountBatchFault}
+use Rattle.flp_report.specs.declared.count_fault.CountBatchFault.TheVariants.{Truncated, Trailing}
 use Rattle.flp_cli.specs.declared.progress.Progress.{Progress}
 use Rattle.flp_cli.specs.Progress.{Follows}
 use Rattle.flp_cli.specs.Verdicts.{judged_after, judged}
@@ -54,7 +54,7 @@ pub record Stops (left left' taken taken' : Option (List ℕ)) (n : ℕ) : Type 
   pub written : TakesPrefix taken taken' (lines_of (judged reports))
 
 -- the bytes that were left end before n records, and the fault says so, from the place of the first of them on
-pub record EndsWithin (left : Option (List ℕ)) (place n size : ℕ) (fault : BatchFault) : Type 0 where
+pub record EndsWithin (left : Option (List ℕ)) (place n size : ℕ) (fault : CountBatchFault) : Type 0 where
   pub short : IfSome left (λ bytes. length bytes < 120 * n)
   pub numbers : IfSome left (λ bytes. fault ≡ Truncated (place + length bytes) size)
 
@@ -77,6 +77,6 @@ pub record StopsAfter (left left' taken taken' : Option (List ℕ)) (n : ℕ) : 
   pub written : TakesPrefix taken taken' (text_of reports)
 
 -- the bytes that were left go on behind n records, and the fault says so
-pub record GoesOn (left : Option (List ℕ)) (n : ℕ) (fault : BatchFault) : Type 0 where
+pub record GoesOn (left : Option (List ℕ)) (n : ℕ) (fault : CountBatchFault) : Type 0 where
   pub long : IfSome left (λ bytes. 120 * n < length bytes)
   pub trailing : fault ≡ Trailing

@@ -3,7 +3,7 @@ use Rattle.std.specs.Prelude.{◌≡◌, ℕ, Bool, true, Option, None, List}
 use Rattle.std.specs.List.{All}
 use Rattle.std.specs.Io.KnownBytes.{Consumes, Appends, IsAtEnd}
 use Rattle.flp_io.specs.Writes.{TakesPrefix}
-use Rattle.flp_report.specs.Batch.{fault_of, whole_records}
+use Rattle.flp_report.specs.CountBatch.{fault_of, whole_records}
 use Rattle.flp_cli.specs.Policy.{Counts, counts_of}
 use Rattle.flp_cli.specs.Verdicts.{judged, verdicts_of}
 use Rattle.flp_cli.specs.Text.{lines_of, text_of}

@@ -6,7 +6,7 @@ ghost use Rattle.flp_cli.specs.Answers.{IsJob, status_of, truncated_line, line_o
 
 use crate::fault::Fault;
 use flp_io::{Failed, Sink, put};
-use flp_report::BatchFault;
+use flp_report::CountBatchFault;
 
 /// Whether the words of the command line are the job that is built.
 pub fn is_job(words: &[&str]) -> bool
@@ -59,7 +59,7 @@ pub fn put_fault<E: Sink>(errors: &mut E, fault: Fault) -> Result<(), Failed>
         Fault::Read => put(errors, b"flp: read fault\n"),
         Fault::Write => put(errors, b"flp: write fault\n"),
         Fault::NotBuilt => put(errors, b"flp: not built\n"),
-        Fault::Batch(BatchFault::Trailing) => put(errors, b"flp: batch: trailing\n"),
-        Fault::Batch(BatchFault::Truncated(have, need)) => put_truncated(errors, have, need),
+        Fault::Batch(CountBatchFault::Trailing) => put(errors, b"flp: batch: trailing\n"),
+        Fault::Batch(CountBatchFault::Truncated(have, need)) => put_truncated(errors, have, need),
     }
 }

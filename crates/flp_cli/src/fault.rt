@@ -3,7 +3,7 @@ ghost use Rattle.std.specs.Prelude.{◌≡◌};
 ghost use Rattle.flp_cli.specs.Fault.{fault_from};
 ghost use Rattle.flp_cli.specs.declared.fault.Fault.TheVariants.{Memory as OutOfMemory};
 
-use flp_report::{BatchFault, ReadFault};
+use flp_report::{CountBatchFault, CountFault};
 use std::alloc::AllocError;
 
 /// Why `verify` ends before its text is whole.
@@ -18,7 +18,7 @@ pub enum Fault {
     /// The batch is not one of Count reports, the one kind that is built.
     NotBuilt,
     /// The input is no batch.
-    Batch(BatchFault),
+    Batch(CountBatchFault),
 }
 
 impl From<AllocError> for Fault {
@@ -30,13 +30,13 @@ impl From<AllocError> for Fault {
 }
 
 /// A reader's fault as one of `verify`.
-pub fn from_read(fault: ReadFault) -> Fault
+pub fn from_read(fault: CountFault) -> Fault
     ensures { result ≡ fault_from fault }
 {
     match fault {
-        ReadFault::Memory => Fault::Memory,
-        ReadFault::Failed => Fault::Read,
-        ReadFault::NotBuilt => Fault::NotBuilt,
-        ReadFault::Batch(fault) => Fault::Batch(fault),
+        CountFault::Memory => Fault::Memory,
+        CountFault::Failed => Fault::Read,
+        CountFault::NotBuilt => Fault::NotBuilt,
+        CountFault::Batch(fault) => Fault::Batch(fault),
     }
 }

@@ -2,8 +2,8 @@
 ghost use Rattle.std.specs.Prelude.{◌≡◌, ◌≢◌, ◌<◌, ◌⊎◌, ◌↔◌, ℕ, List, map, vec_len, Ok, Err, Some, IsTrue, MatchResult, OnOk, OnErr, IfSome};
 ghost use Rattle.std.specs.Io.KnownBytes.{Appends, Keeps};
 ghost use Rattle.flp_io.specs.Faults.{Rose};
-ghost use Rattle.flp_report.specs.Batch.{fault_of};
-ghost use Rattle.flp_report.specs.declared.fault.BatchFault.{BatchFault};
+ghost use Rattle.flp_report.specs.CountBatch.{fault_of};
+ghost use Rattle.flp_report.specs.declared.count_fault.CountBatchFault.{CountBatchFault};
 ghost use Rattle.flp_cli.specs.Answers.{IsJob, is_status, status_for, line_of_fault, line_for};
 ghost use Rattle.flp_cli.specs.Laws.{JudgesOnce, AcceptsHonest};
 ghost use Rattle.flp_cli.specs.Reply.{WritesText, StopsInText, Verifies, StopsEarly, StopsLate};
@@ -14,7 +14,7 @@ use crate::verdict::Policy;
 use crate::verify::verify;
 use flp_io::{Sink, Source, put};
 use flp_pool::Gate;
-use flp_report::ReadFault;
+use flp_report::CountFault;
 use std::alloc::Global;
 use std::thread::Threads;
 
@@ -28,9 +28,9 @@ fn do_verify<S: Source, K: Sink, E: Sink>(
     ensures done { OnOk result (WritesText (S.left input.old) (S.left input.new) (K.taken output.old) (K.taken output.new)) }
     ensures stopped { OnErr result (StopsEarly (S.left input.old) (S.left input.new) (K.taken output.old) (K.taken output.new)
         ⊎ ((result ≡ Err Fault.Write) × StopsInText (S.left input.old) (S.left input.new) (K.taken output.old) (K.taken output.new))) }
-    ensures refused { (fault : BatchFault) → result ≡ Err (Fault.Batch fault)
-        → IfSome (S.left input.old) (λ bytes. fault_of bytes ≡ Some (ReadFault.Batch fault)) }
-    ensures not_built { result ≡ Err Fault.NotBuilt → IfSome (S.left input.old) (λ bytes. fault_of bytes ≡ Some ReadFault.NotBuilt) }
+    ensures refused { (fault : CountBatchFault) → result ≡ Err (Fault.Batch fault)
+        → IfSome (S.left input.old) (λ bytes. fault_of bytes ≡ Some (CountFault.Batch fault)) }
+    ensures not_built { result ≡ Err Fault.NotBuilt → IfSome (S.left input.old) (λ bytes. fault_of bytes ≡ Some CountFault.NotBuilt) }
     ensures not_written { result ≡ Err Fault.NotBuilt → Keeps (K.taken output.old) (K.taken output.new) }
     ensures read { result ≡ Err Fault.Read → Rose (S.faults input.old) (S.faults input.new) }
     ensures write { result ≡ Err Fault.Write → Rose (K.faults output.old) (K.faults output.new) }
@@ -97,9 +97,9 @@ pub fn run<R: Threads + Sync, S: Source, K: Sink, E: Sink, G: Gate>(
     ensures none_written { result ≡ 2 → output.new ≡ output.old }
     ensures read { result ≡ 4 → Rose (S.faults input.old) (S.faults input.new) }
     ensures write { result ≡ 5 → Rose (K.faults output.old) (K.faults output.new) }
-    ensures refused { result ≡ 6 → (fault : BatchFault) × IfSome (S.left input.old) (λ bytes. fault_of bytes ≡ Some (ReadFault.Batch fault))
+    ensures refused { result ≡ 6 → (fault : CountBatchFault) × IfSome (S.left input.old) (λ bytes. fault_of bytes ≡ Some (CountFault.Batch fault))
         × ((Rose (E.faults errors.old) (E.faults errors.new) → ⊥) → Appends (E.taken errors.old) (E.taken errors.new) (line_of_fault (Fault.Batch fault))) }
-    ensures not_built { result ≡ 10 → IfSome (S.left input.old) (λ bytes. fault_of bytes ≡ Some ReadFault.NotBuilt) }
+    ensures not_built { result ≡ 10 → IfSome (S.left input.old) (λ bytes. fault_of bytes ≡ Some CountFault.NotBuilt) }
     ensures not_written { result ≡ 10 → Keeps (K.taken output.old) (K.taken output.new) }
     ensures complete { IsJob (map (λ w. w.now) words.now) → (bytes : List ℕ) → S.left input.old ≡ Some bytes
         → (Rose (S.faults input.old) (S.faults input.new) → ⊥) → (Rose (K.faults output.old) (K.faults output.new) → ⊥)

@@ -3,11 +3,11 @@ ghost use Rattle.std.specs.Prelude.{◌≡◌, ◌≢◌, ◌+◌, ◌*◌, ◌^
 ghost use Rattle.std.specs.Io.KnownBytes.{Appends, Keeps};
 ghost use Rattle.flp_io.specs.Faults.{Rose};
 ghost use Rattle.flp_io.specs.Writes.{TakesPrefix};
-ghost use Rattle.flp_report.specs.Batch.{fault_of};
+ghost use Rattle.flp_report.specs.CountBatch.{fault_of};
 ghost use Rattle.flp_report.specs.Segment.{shape_in, room_of, used_in, record_in};
 ghost use Rattle.flp_report.specs.Shape.{IsCountShape};
-ghost use Rattle.flp_report.specs.Reader.{source_of, SameLoan, reports_given, reports_left, place_of, size_of_file};
-ghost use Rattle.flp_report.specs.declared.fault.BatchFault.{BatchFault};
+ghost use Rattle.flp_report.specs.CountReader.{source_of, SameLoan, reports_given, reports_left, place_of, size_of_file};
+ghost use Rattle.flp_report.specs.declared.count_fault.CountBatchFault.{CountBatchFault};
 ghost use Rattle.flp_cli.specs.Progress.{Follows};
 ghost use Rattle.flp_cli.specs.Verdicts.{judged_after};
 ghost use Rattle.flp_cli.specs.Text.{line_of, ending_text};
@@ -18,7 +18,7 @@ use crate::fault::{Fault, from_read};
 use crate::progress::Progress;
 use crate::text::{make_ending, make_line};
 use flp_io::{Sink, Source, put};
-use flp_report::{BatchReader, ReadFault, Segment, Shape};
+use flp_report::{CountFault, CountReader, Segment, Shape};
 use std::alloc::{AllocError, Global};
 
 /// Judges the record in the room and makes its line.
@@ -72,7 +72,7 @@ fn write_record<K: Sink>(
 
 /// Reads the next report, judges it, and writes its line.
 fn one_report<S: Source, K: Sink>(
-    reader: &mut BatchReader<'_, S>,
+    reader: &mut CountReader<'_, S>,
     room: &mut Segment,
     line: &mut Vec<u8>,
     progress: &mut Progress,
@@ -92,7 +92,7 @@ fn one_report<S: Source, K: Sink>(
         (K.taken output.old) (K.taken output.new) progress.old progress.new) }
     ensures stopped { OnErr result (StopsBefore (S.left (source_of reader.old)) (S.left (source_of reader.new)) (K.taken output.old) (K.taken output.new)
         ⊎ StopsWithin (S.left (source_of reader.old)) (S.left (source_of reader.new)) (K.taken output.old) (K.taken output.new) progress.old) }
-    ensures refused { (fault : BatchFault) → result ≡ Err (Fault.Batch fault)
+    ensures refused { (fault : CountBatchFault) → result ≡ Err (Fault.Batch fault)
         → EndsWithin (S.left (source_of reader.old)) (place_of reader.old) 1 (size_of_file reader.old) fault }
     ensures built { result ≢ Err Fault.NotBuilt }
     ensures read { result ≡ Err Fault.Read → Rose (S.faults (source_of reader.old)) (S.faults (source_of reader.new)) }
@@ -109,7 +109,7 @@ fn one_report<S: Source, K: Sink>(
 /// Reads, judges and writes all reports of a batch, behind its head.
 fn all_reports<S: Source, K: Sink>(
     alloc: Global,
-    reader: &mut BatchReader<'_, S>,
+    reader: &mut CountReader<'_, S>,
     count: u32,
     progress: &mut Progress,
     output: &mut K,
@@ -123,7 +123,7 @@ fn all_reports<S: Source, K: Sink>(
         (K.taken output.old) (K.taken output.new) progress.new count) }
     ensures stopped { OnErr result (Stops (S.left (source_of reader.old)) (S.left (source_of reader.new))
         (K.taken output.old) (K.taken output.new) count) }
-    ensures refused { (fault : BatchFault) → result ≡ Err (Fault.Batch fault)
+    ensures refused { (fault : CountBatchFault) → result ≡ Err (Fault.Batch fault)
         → EndsWithin (S.left (source_of reader.old)) 42 count (42 + 120 * count) fault }
     ensures built { result ≢ Err Fault.NotBuilt }
     ensures read { result ≡ Err Fault.Read → Rose (S.faults (source_of reader.old)) (S.faults (source_of reader.new)) }
@@ -162,7 +162,7 @@ fn write_ending<K: Sink>(alloc: Global, progress: &Progress, output: &mut K) -> 
 /// Reads all reports and the end of the input, behind the head, and then writes the ending.
 fn reports_and_ending<S: Source, K: Sink>(
     alloc: Global,
-    reader: &mut BatchReader<'_, S>,
+    reader: &mut CountReader<'_, S>,
     count: u32,
     output: &mut K,
 ) -> Result<(), Fault>
@@ -172,7 +172,7 @@ fn reports_and_ending<S: Source, K: Sink>(
     ensures done { OnOk result (Finishes (S.left (source_of reader.old)) (S.left (source_of reader.new)) (K.taken output.old) (K.taken output.new) count) }
     ensures stopped { OnErr result (Stops (S.left (source_of reader.old)) (S.left (source_of reader.new)) (K.taken output.old) (K.taken output.new) count
         ⊎ ((result ≡ Err Fault.Write) × StopsAfter (S.left (source_of reader.old)) (S.left (source_of reader.new)) (K.taken output.old) (K.taken output.new) count)) }
-    ensures refused { (fault : BatchFault) → result ≡ Err (Fault.Batch fault)
+    ensures refused { (fault : CountBatchFault) → result ≡ Err (Fault.Batch fault)
         → EndsWithin (S.left (source_of reader.old)) 42 count (42 + 120 * count) fault ⊎ GoesOn (S.left (source_of reader.old)) count fault }
     ensures built { result ≢ Err Fault.NotBuilt }
     ensures read { result ≡ Err Fault.Read → Rose (S.faults (source_of reader.old)) (S.faults (source_of reader.new)) }
@@ -193,16 +193,16 @@ fn reports_and_ending<S: Source, K: Sink>(
 /// Reads a batch and writes its text.
 fn verify_batch<S: Source, K: Sink>(
     alloc: Global,
-    reader: &mut BatchReader<'_, S>,
+    reader: &mut CountReader<'_, S>,
     output: &mut K,
 ) -> Result<(), Fault>
     ensures same { SameLoan reader.old reader.new }
     ensures done { OnOk result (WritesText (S.left (source_of reader.old)) (S.left (source_of reader.new)) (K.taken output.old) (K.taken output.new)) }
     ensures stopped { OnErr result (StopsEarly (S.left (source_of reader.old)) (S.left (source_of reader.new)) (K.taken output.old) (K.taken output.new)
         ⊎ ((result ≡ Err Fault.Write) × StopsInText (S.left (source_of reader.old)) (S.left (source_of reader.new)) (K.taken output.old) (K.taken output.new))) }
-    ensures refused { (fault : BatchFault) → result ≡ Err (Fault.Batch fault)
-        → IfSome (S.left (source_of reader.old)) (λ bytes. fault_of bytes ≡ Some (ReadFault.Batch fault)) }
-    ensures not_built { result ≡ Err Fault.NotBuilt → IfSome (S.left (source_of reader.old)) (λ bytes. fault_of bytes ≡ Some ReadFault.NotBuilt) }
+    ensures refused { (fault : CountBatchFault) → result ≡ Err (Fault.Batch fault)
+        → IfSome (S.left (source_of reader.old)) (λ bytes. fault_of bytes ≡ Some (CountFault.Batch fault)) }
+    ensures not_built { result ≡ Err Fault.NotBuilt → IfSome (S.left (source_of reader.old)) (λ bytes. fault_of bytes ≡ Some CountFault.NotBuilt) }
     ensures not_written { result ≡ Err Fault.NotBuilt → Keeps (K.taken output.old) (K.taken output.new) }
     ensures read { result ≡ Err Fault.Read → Rose (S.faults (source_of reader.old)) (S.faults (source_of reader.new)) }
     ensures write { result ≡ Err Fault.Write → Rose (K.faults output.old) (K.faults output.new) }
@@ -224,15 +224,15 @@ pub fn verify<S: Source, K: Sink>(alloc: Global, input: &mut S, output: &mut K) 
     ensures done { OnOk result (WritesText (S.left input.old) (S.left input.new) (K.taken output.old) (K.taken output.new)) }
     ensures stopped { OnErr result (StopsEarly (S.left input.old) (S.left input.new) (K.taken output.old) (K.taken output.new)
         ⊎ ((result ≡ Err Fault.Write) × StopsInText (S.left input.old) (S.left input.new) (K.taken output.old) (K.taken output.new))) }
-    ensures refused { (fault : BatchFault) → result ≡ Err (Fault.Batch fault)
-        → IfSome (S.left input.old) (λ bytes. fault_of bytes ≡ Some (ReadFault.Batch fault)) }
-    ensures not_built { result ≡ Err Fault.NotBuilt → IfSome (S.left input.old) (λ bytes. fault_of bytes ≡ Some ReadFault.NotBuilt) }
+    ensures refused { (fault : CountBatchFault) → result ≡ Err (Fault.Batch fault)
+        → IfSome (S.left input.old) (λ bytes. fault_of bytes ≡ Some (CountFault.Batch fault)) }
+    ensures not_built { result ≡ Err Fault.NotBuilt → IfSome (S.left input.old) (λ bytes. fault_of bytes ≡ Some CountFault.NotBuilt) }
     ensures not_written { result ≡ Err Fault.NotBuilt → Keeps (K.taken output.old) (K.taken output.new) }
     ensures read { result ≡ Err Fault.Read → Rose (S.faults input.old) (S.faults input.new) }
     ensures write { result ≡ Err Fault.Write → Rose (K.faults output.old) (K.faults output.new) }
     ensures later_in { S.faults input.old ≤ S.faults input.new }
     ensures later_out { K.faults output.old ≤ K.faults output.new }
 {
-    let mut reader = BatchReader::new(input);
+    let mut reader = CountReader::new(input);
     verify_batch(alloc, &mut reader, output)
 }

@@ -7,3 +7,9 @@ pub share_fits : (share shares part rest : ℕ) → share < shares → 16 + shar
 share_fits share shares part rest below =
     let more : share + 1 ≤ shares = omega arith in
     omega (arith, mul-le-mul_right part more)
+
+-- the own words of a proof end within those of all proofs
+pub own_fits : (proof proofs before own : ℕ) → proof < proofs → 16 + 8 * (before + proof * own) + 8 * own ≤ 16 + 8 * (before + proofs * own)
+own_fits proof proofs before own below =
+    let more : proof + 1 ≤ proofs = omega arith in
+    omega (arith, mul-le-mul_right own more)

@@ -9,3 +9,7 @@ pub ConsumesAtMost-after : (a b c : Option (List ℕ)) (bytes : List ℕ) (n lim
 ConsumesAtMost-after a b c bytes n limit first some fits =
     let size = length-append bytes some.bytes in
     record { bytes = bytes ++ some.bytes; few = omega (arith, size, some.few, fits); gone = Consumes-trans a b c bytes some.bytes first some.gone }
+
+-- a weaker limit
+pub ConsumesAtMost-more : (a b : Option (List ℕ)) (n limit : ℕ) → ConsumesAtMost n a b → n ≤ limit → ConsumesAtMost limit a b
+ConsumesAtMost-more a b n limit some fits = record { bytes = some.bytes; few = omega (arith, some.few, fits); gone = some.gone }

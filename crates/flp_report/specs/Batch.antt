@@ -1,82 +1,111 @@
--- The batch file of Count reports, from the whole file down to its parts.
-use Rattle.std.specs.Prelude.{ℕ, zero, suc, ◌+◌, ◌-◌, ◌*◌, ◌/◌, ◌≡◌, min, List, [], ◌∷◌, ◌++◌, Bool, true, not, Option, Some, None, codes, nat_eq, nat_lt, if◌then◌else◌, length, take, drop}
-use Rattle.std.specs.List.{starts_with}
-use Rattle.byteorder.specs.Endian.{little_number}
-use Rattle.flp_report.specs.declared.fault.ReadFault.{ReadFault}
-use Rattle.flp_report.specs.declared.fault.ReadFault.TheVariants.{NotBuilt, Batch}
-use Rattle.flp_report.specs.declared.fault.BatchFault.TheVariants.{Truncated, Trailing}
+-- The batch file, from its parts up to the first fault of a whole file.
+use Rattle.std.specs.Prelude.{ℕ, ◌+◌, ◌-◌, ◌*◌, ◌/◌, ◌≡◌, ◌≤◌, ◌<◌, min, List, [], ◌∷◌, ◌++◌, Option, Some, None, IfSome, codes, nat_lt, length, take, drop}
+use Rattle.std.specs.Option.{option_map}
+use Rattle.flp_report.specs.declared.fault.BatchFault.{BatchFault}
+use Rattle.flp_report.specs.declared.fault.BatchFault.TheVariants.{TooLarge, ClaimsOrder, Trailing}
+use Rattle.flp_report.specs.declared.header.Header.{Header}
+use Rattle.flp_report.specs.declared.shape.Shape.{Shape}
+use Rattle.flp_report.specs.Shape.{bytes_of}
+use Rattle.flp_report.specs.Fault.{met, first_of, ended}
+use Rattle.flp_report.specs.Head.{number_at, text_end, head_fault}
+use Rattle.flp_report.specs.Pieces.{pieces, fall_in}
 
--- a number below 256 in 4 bytes
-abbrev pub small_number : ℕ → List ℕ
-small_number n = n ∷ 0 ∷ 0 ∷ 0 ∷ []
+-- the letters with which a batch begins
+abbrev pub batch_letters : List ℕ
+batch_letters = codes "FLPBATCH"
 
--- how the file begins: its letters, version 1, two shares, one proof, a text of ten bytes, no old claims
-abbrev pub count_head : List ℕ
-count_head = codes "FLPBATCH" ++ small_number 1 ++ small_number 2 ++ small_number 1 ++ small_number 10 ++ small_number 0
+-- what stands in front of the old claims: 32 bytes with the letters and six numbers, and the text
+abbrev pub header_of : List ℕ → Header
+header_of bytes = record { shares = number_at 12 bytes; proofs = number_at 16 bytes; text = take (number_at 20 bytes) (drop 32 bytes); claims = number_at 24 bytes; reports = number_at 28 bytes }
 
--- the circuit text, which follows the number of reports
-abbrev pub count_text : List ℕ
-count_text = codes "use count;"
+-- the first size above its limit: of a record, of the old claims, of a file that has them behind its first `before` bytes
+abbrev pub large_fault : Shape → ℕ → ℕ → ℕ → Option BatchFault
+large_fault shape before claims reports =
+    first_of (
+    met (nat_lt 16777216 (bytes_of shape)) (TooLarge (bytes_of shape))
+    ∷ met (nat_lt 268435456 (16 * claims)) (TooLarge (16 * claims))
+    ∷ met (nat_lt 1073741824 (before + 16 * claims + reports * bytes_of shape)) (TooLarge (before + 16 * claims + reports * bytes_of shape))
+    ∷ [])
 
-abbrev pub has_count_head : List ℕ → Bool
-has_count_head bytes = starts_with nat_eq bytes count_head
+-- the first fault of this many old claims, nonces of 16 bytes in strictly rising order behind the first `before` bytes
+abbrev pub claims_fault : ℕ → ℕ → List ℕ → Option BatchFault
+claims_fault before count rest =
+    first_of (
+    ended before (before + 16 * count) rest
+    ∷ option_map ClaimsOrder (fall_in (pieces 16 count rest))
+    ∷ [])
 
-abbrev pub has_count_text : List ℕ → Bool
-has_count_text bytes = starts_with nat_eq (drop 32 bytes) count_text
+-- the first fault of the records, which stand behind the first `before` bytes of a file of this size
+abbrev pub records_fault : ℕ → ℕ → List ℕ → Option BatchFault
+records_fault before whole rest =
+    first_of (
+    ended before whole rest
+    ∷ met (nat_lt whole (before + length rest)) Trailing
+    ∷ [])
 
--- the number of reports that the head gives
-abbrev pub reports_of : List ℕ → ℕ
-reports_of bytes = little_number 4 (drop 28 bytes)
+-- where the old claims end
+abbrev pub claims_end : List ℕ → ℕ
+claims_end bytes = text_end 32 bytes + 16 * number_at 24 bytes
 
--- the bytes of the whole file, by its head: 120 a report
-abbrev pub whole_of : List ℕ → ℕ
-whole_of bytes = 42 + 120 * reports_of bytes
+-- the size that the head gives to a file whose records have this shape
+abbrev pub size_of : Shape → List ℕ → ℕ
+size_of shape bytes = claims_end bytes + number_at 28 bytes * bytes_of shape
 
--- the input ended before the bytes that were needed
-abbrev pub truncated : List ℕ → ℕ → Option ReadFault
-truncated bytes need = Some (Batch (Truncated (length bytes) need))
+-- the first fault of a file up to its old claims, the circuit's own fault aside
+abbrev pub front_fault : Option ℕ → Shape → List ℕ → Option BatchFault
+front_fault party shape bytes =
+    first_of (
+    head_fault batch_letters 32 party bytes
+    ∷ large_fault shape (text_end 32 bytes) (number_at 24 bytes) (number_at 28 bytes)
+    ∷ claims_fault (text_end 32 bytes) (number_at 24 bytes) (drop (text_end 32 bytes) bytes)
+    ∷ [])
 
--- the first fault of a file, in the one order of faults, or none where it is a batch
-abbrev pub fault_of : List ℕ → Option ReadFault
-fault_of bytes =
-    if nat_lt (length bytes) 32 then truncated bytes 32
-    else (if not (has_count_head bytes) then Some NotBuilt
-    else (if nat_lt (length bytes) 42 then truncated bytes 42
-    else (if not (has_count_text bytes) then Some NotBuilt
-    else (if nat_lt (length bytes) (whole_of bytes) then truncated bytes (whole_of bytes)
-    else (if nat_lt (whole_of bytes) (length bytes) then Some (Batch Trailing)
-    else None)))))
+-- the first fault of a file whose records have this shape, or none where it is a batch
+abbrev pub fault_of : Option ℕ → Shape → List ℕ → Option BatchFault
+fault_of party shape bytes =
+    first_of (
+    front_fault party shape bytes
+    ∷ records_fault (claims_end bytes) (size_of shape bytes) (drop (claims_end bytes) bytes)
+    ∷ [])
 
--- the first n records of 120 bytes each
-abbrev pub records : ℕ → List ℕ → List (List ℕ)
-records zero bytes = []
-records (suc n) bytes = take 120 bytes ∷ records n (drop 120 bytes)
+-- the old claims, 16 bytes each
+abbrev pub claims_of : List ℕ → List (List ℕ)
+claims_of bytes = pieces 16 (number_at 24 bytes) (drop (text_end 32 bytes) bytes)
 
--- the records of which all bytes are there, up to the number that the head gives
-abbrev pub whole_records : List ℕ → List (List ℕ)
-whole_records bytes = records (min (reports_of bytes) ((length bytes - 42) / 120)) (drop 42 bytes)
+-- the records of a file without a fault in front of them, as many as are whole
+abbrev pub records_of : Shape → List ℕ → List (List ℕ)
+records_of shape bytes = pieces (bytes_of shape) (min (number_at 28 bytes) ((length bytes - claims_end bytes) / bytes_of shape)) (drop (claims_end bytes) bytes)
 
--- the first 32 bytes of a batch of n reports
-pub record IsNumbers (bytes : List ℕ) (n : ℕ) : Type 0 where
-  pub size : length bytes ≡ 32
-  pub head : has_count_head bytes ≡ true
-  pub reports : reports_of bytes ≡ n
+-- records, where no fault stands in front of them
+abbrev pub records_before : Option BatchFault → List (List ℕ) → List (List ℕ)
+records_before None records = records
+records_before (Some fault) records = []
 
--- the bytes of the text
-pub record IsText (bytes : List ℕ) : Type 0 where
-  pub size : length bytes ≡ 10
-  pub text : starts_with nat_eq bytes count_text ≡ true
+-- the records of which all bytes are there and which stand in front of the first fault
+abbrev pub whole_records : Option ℕ → Shape → List ℕ → List (List ℕ)
+whole_records party shape bytes = records_before (front_fault party shape bytes) (records_of shape bytes)
 
--- the first fault up to the text of a file whose first 32 bytes have none, from what follows these
-abbrev pub text_fault_of : List ℕ → Option ReadFault
-text_fault_of bytes =
-    if nat_lt (length bytes) 10 then Some (Batch (Truncated (32 + length bytes) 42))
-    else (if not (starts_with nat_eq bytes count_text) then Some NotBuilt
-    else None)
+-- the bytes in front of the old claims of a batch without a fault up to there, and what they say
+pub record IsHead (party : Option ℕ) (bytes : List ℕ) (header : Header) : Type 0 where
+  pub size : length bytes ≡ text_end 32 bytes
+  pub none : head_fault batch_letters 32 party bytes ≡ None
+  pub same : header ≡ header_of bytes
 
--- the 42 bytes in front of the records of a batch of n reports
-pub record IsHead (bytes : List ℕ) (n : ℕ) : Type 0 where
-  pub size : length bytes ≡ 42
-  pub head : has_count_head bytes ≡ true
-  pub text : has_count_text bytes ≡ true
-  pub reports : reports_of bytes ≡ n
+-- the numbers of a header are within their limits, and a party that is asked for has a share
+pub record IsInLimits (party : Option ℕ) (header : Header) : Type 0 where
+  pub least_shares : 2 ≤ header.shares
+  pub most_shares : header.shares ≤ 16
+  pub least_proofs : 1 ≤ header.proofs
+  pub most_proofs : header.proofs ≤ 16
+  pub own_share : IfSome party (λ p. p < header.shares)
+  pub text : length header.text ≤ 65536
+
+-- the bytes in front of the records of a batch without a fault up to there: a head, and old claims
+pub record IsFront (party : Option ℕ) (shape : Shape) (bytes : List ℕ) (header : Header) : Type 0 where
+  pub head : List ℕ
+  pub claims : List ℕ
+  pub is : bytes ≡ head ++ claims
+  pub says : IsHead party head header
+  pub fits : large_fault shape (length head) header.claims header.reports ≡ None
+  pub size : length claims ≡ 16 * header.claims
+  pub rising : fall_in (pieces 16 header.claims claims) ≡ None

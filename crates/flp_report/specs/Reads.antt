@@ -1,9 +1,18 @@
 -- How many bytes a reading takes from its source.
-use Rattle.std.specs.Prelude.{ℕ, ◌≤◌, List, length, Option}
+use Rattle.std.specs.Prelude.{ℕ, ◌+◌, ◌≤◌, ◌<◌, ◌≡◌, List, length, Option, IfSome}
 use Rattle.std.specs.Io.KnownBytes.{Consumes}
+use Rattle.flp_report.specs.declared.fault.BatchFault.{BatchFault}
+use Rattle.flp_report.specs.declared.fault.BatchFault.TheVariants.{Truncated}
 
 -- known bytes lose some of their front, and no more than this many
 pub record ConsumesAtMost (limit : ℕ) (old new : Option (List ℕ)) : Type 0 where
   pub bytes : List ℕ
   pub few : length bytes ≤ limit
   pub gone : Consumes old new bytes
+
+-- the fault is that only `came` bytes, less than were wanted behind the first `before`, were left
+pub record EndedShort (left : Option (List ℕ)) (before wanted need : ℕ) (fault : BatchFault) : Type 0 where
+  pub came : ℕ
+  pub less : came < wanted
+  pub is : fault ≡ Truncated (before + came) need
+  pub known : IfSome left (λ bytes. length bytes ≡ came)

@@ -1,253 +1,237 @@
 //! The reader of a batch, which borrows its source.
-ghost use Rattle.std.specs.Prelude.{◌≡◌, ◌+◌, ◌-◌, ◌*◌, ◌<◌, ◌≤◌, ◌≢◌, ◌^◌, ◌⊎◌, [], List, ℕ, length, vec_len, take, slice_index, None, Some, Err, IfOk, IfErr, OnOk, OnErr, IfSome};
+ghost use Rattle.std.specs.Prelude.{◌≡◌, ◌+◌, ◌*◌, ◌<◌, ◌≤◌, ◌≢◌, ◌⊎◌, length, [], List, ℕ, None, Some, Err, IfOk, IfErr, OnOk, OnErr, IfSome};
 ghost use Rattle.std.specs.Io.KnownBytes.{Consumes, IsAtEnd};
 ghost use Rattle.flp_io.specs.Faults.{Rose};
 ghost use Rattle.flp_io.specs.Reads.{ConsumesSome};
-ghost use Rattle.flp_report.specs.Batch.{fault_of, IsHead, IsNumbers, IsText, text_fault_of};
-ghost use Rattle.flp_report.specs.Reads.{ConsumesAtMost};
+ghost use Rattle.flp_report.specs.Fault.{IfBatch};
+ghost use Rattle.flp_report.specs.Reads.{ConsumesAtMost, EndedShort};
 
 use crate::fault::{BatchFault, ReadFault};
+use crate::head::{number_at, read_head};
+use crate::header::Header;
+use crate::nonces::Nonces;
+use crate::read::{read_front, read_growing};
 use crate::segment::Segment;
-use byteorder::{ByteOrder, LittleEndian};
+use crate::shape::{CLAIMS_LIMIT, FILE_LIMIT, RECORD_LIMIT, Shape};
 use flp_io::{Source, fill};
 use flp_list::Bytes;
 use std::alloc::Global;
 
-/// How a batch of Count reports begins: the letters, version 1, two shares, one proof, a text of
-/// ten bytes and no old claims. The number of reports follows.
-const COUNT_HEAD: [u8; 28] = *b"FLPBATCH\x01\0\0\0\x02\0\0\0\x01\0\0\0\x0a\0\0\0\0\0\0\0";
+/// The letters with which a batch begins.
+pub(crate) const LETTERS: [u8; 8] = *b"FLPBATCH";
 
-/// The text of the circuit Count.
-const COUNT_TEXT: [u8; 10] = *b"use count;";
-
-/// The bytes in front of the records of a batch of Count reports.
-const HEAD_BYTES: u64 = 42;
-
-/// The bytes of one Count report.
-const RECORD_BYTES: u64 = 120;
-
-/// What stands in front of the records of a batch: how many shares and proofs a report has, the
-/// circuit text, and how many old claims and reports follow.
-#[derive(Debug, PartialEq, Eq, Drop)]
-pub struct Header {
-    pub shares: u32,
-    pub proofs: u32,
-    pub text: Bytes,
-    pub claims: u32,
-    pub reports: u32,
-}
-
-/// Fills the buffer, whose first byte has `before` bytes of the file in front of it, out of `need`.
-fn read_whole<S: Source>(
-    source: &mut S,
-    buf: &mut [u8],
-    before: u64,
-    need: u64,
-) -> Result<(), ReadFault>
-    requires { before + length buf.old < 2 ^ 63 }
-    ensures bytes { OnOk result (Consumes (S.left source.old) (S.left source.new) buf.new) }
-    ensures moved { ConsumesSome (S.left source.old) (S.left source.new) }
-    ensures few { ConsumesAtMost (length buf.old) (S.left source.old) (S.left source.new) }
-    ensures fault { OnErr result ((result ≡ Err ReadFault.Failed) ⊎ ((n : ℕ) × (result ≡ Err (ReadFault.Batch (BatchFault.Truncated (before + n) need)))
-        × (n < length buf.old) × IfSome (S.left source.old) (λ left. length left ≡ n))) }
-    ensures failed { result ≡ Err ReadFault.Failed → Rose (S.faults source.old) (S.faults source.new) }
-    ensures later { S.faults source.old ≤ S.faults source.new }
-{
-    match fill(source, buf) {
-        Ok(count) if count == buf.len() => Ok(()),
-        Ok(count) => Err(ReadFault::Batch(BatchFault::Truncated(before + count as u64, need))),
-        Err(_) => Err(ReadFault::Failed),
-    }
-}
-
-/// Fills the first `wanted` bytes of the room, as [`read_whole`] does.
-fn read_front<S: Source>(
-    source: &mut S,
-    room: &mut [u8],
-    wanted: usize,
-    before: u64,
-    need: u64,
-) -> Result<(), ReadFault>
-    requires wanted { wanted ≤ length room.old }
-    requires fits { before + wanted < 2 ^ 63 }
-    ensures bytes { OnOk result (Consumes (S.left source.old) (S.left source.new) (take wanted room.new)) }
-    ensures moved { ConsumesSome (S.left source.old) (S.left source.new) }
-    ensures few { ConsumesAtMost wanted (S.left source.old) (S.left source.new) }
-    ensures fault { OnErr result ((result ≡ Err ReadFault.Failed) ⊎ ((n : ℕ) × (result ≡ Err (ReadFault.Batch (BatchFault.Truncated (before + n) need)))
-        × (n < wanted) × IfSome (S.left source.old) (λ left. length left ≡ n))) }
-    ensures failed { result ≡ Err ReadFault.Failed → Rose (S.faults source.old) (S.faults source.new) }
-    ensures later { S.faults source.old ≤ S.faults source.new }
-{
-    read_whole(source, &mut room[..wanted], before, need)
-}
-
-/// Reads the numbers of the head and answers the number of reports.
-fn read_numbers<S: Source>(source: &mut S) -> Result<u32, ReadFault>
-    ensures bytes { IfOk result (λ reports. (bytes : List ℕ) × IsNumbers bytes reports
-        × Consumes (S.left source.old) (S.left source.new) bytes) }
-    ensures fault { IfErr result (λ fault. fault ≢ ReadFault.Failed
-        → IfSome (S.left source.old) (λ bytes. fault_of bytes ≡ Some fault)) }
-    ensures no_memory { result ≢ Err ReadFault.Memory }
-    ensures moved { ConsumesSome (S.left source.old) (S.left source.new) }
-    ensures few { ConsumesAtMost 32 (S.left source.old) (S.left source.new) }
-    ensures early { (have need : ℕ) → result ≡ Err (ReadFault.Batch (BatchFault.Truncated have need)) → need ≡ 32 }
-    ensures not_trailing { result ≢ Err (ReadFault.Batch BatchFault.Trailing) }
-    ensures failed { result ≡ Err ReadFault.Failed → Rose (S.faults source.old) (S.faults source.new) }
-    ensures later { S.faults source.old ≤ S.faults source.new }
-{
-    let mut head = [0; 32];
-    read_whole(source, &mut head, 0, 32)?;
-    if !head.starts_with(&COUNT_HEAD) {
-        return Err(ReadFault::NotBuilt);
-    }
-    Ok(LittleEndian::read_u32(&head[28..]))
-}
-
-/// Reads the text, which must be that of the circuit Count.
-fn read_text<S: Source>(source: &mut S) -> Result<(), ReadFault>
-    ensures bytes { OnOk result ((bytes : List ℕ) × IsText bytes
-        × Consumes (S.left source.old) (S.left source.new) bytes) }
-    ensures fault { IfErr result (λ fault. fault ≢ ReadFault.Failed
-        → IfSome (S.left source.old) (λ bytes. text_fault_of bytes ≡ Some fault)) }
-    ensures no_memory { result ≢ Err ReadFault.Memory }
-    ensures moved { ConsumesSome (S.left source.old) (S.left source.new) }
-    ensures few { ConsumesAtMost 10 (S.left source.old) (S.left source.new) }
-    ensures early { (have need : ℕ) → result ≡ Err (ReadFault.Batch (BatchFault.Truncated have need)) → need ≡ 42 }
-    ensures not_trailing { result ≢ Err (ReadFault.Batch BatchFault.Trailing) }
-    ensures failed { result ≡ Err ReadFault.Failed → Rose (S.faults source.old) (S.faults source.new) }
-    ensures later { S.faults source.old ≤ S.faults source.new }
-{
-    let mut text = [0; 10];
-    read_whole(source, &mut text, 32, HEAD_BYTES)?;
-    if !text.starts_with(&COUNT_TEXT) {
-        return Err(ReadFault::NotBuilt);
-    }
-    Ok(())
-}
-
-/// Reads what stands in front of the records and answers the number of reports.
-fn read_head<S: Source>(source: &mut S) -> Result<u32, ReadFault>
-    ensures bytes { IfOk result (λ reports. (bytes : List ℕ) × IsHead bytes reports
-        × Consumes (S.left source.old) (S.left source.new) bytes) }
-    ensures fault { IfErr result (λ fault. fault ≢ ReadFault.Failed
-        → IfSome (S.left source.old) (λ bytes. fault_of bytes ≡ Some fault)) }
-    ensures no_memory { result ≢ Err ReadFault.Memory }
-    ensures moved { ConsumesSome (S.left source.old) (S.left source.new) }
-    ensures few { ConsumesAtMost 42 (S.left source.old) (S.left source.new) }
-    ensures early { (have need : ℕ) → result ≡ Err (ReadFault.Batch (BatchFault.Truncated have need)) → (need ≡ 32) ⊎ (need ≡ 42) }
-    ensures not_trailing { result ≢ Err (ReadFault.Batch BatchFault.Trailing) }
-    ensures failed { result ≡ Err ReadFault.Failed → Rose (S.faults source.old) (S.faults source.new) }
-    ensures later { S.faults source.old ≤ S.faults source.new }
-{
-    let reports = read_numbers(source)?;
-    match read_text(source) {
-        Ok(()) => Ok(reports),
-        Err(fault) => Err(fault),
-    }
-}
+/// The bytes in front of the circuit text.
+const HEAD_BYTES: u64 = 32;
 
 /// A reader of one batch, which borrows its source.
 ///
-/// [`head`](BatchReader::head) comes first, then [`segment`](BatchReader::segment) until no report
-/// is left, then [`end`](BatchReader::end). After a [`ReadFault`] no further call of the reader
-/// means anything. The reader takes from its source no more bytes than the head's numbers give, and
-/// one more to see the end.
+/// [`head`](BatchReader::head) comes first; then [`shape`](BatchReader::shape), with the lengths of
+/// the plan of the head's text; then [`claims`](BatchReader::claims); then
+/// [`segment`](BatchReader::segment) until no report is left; then [`end`](BatchReader::end). After
+/// a [`ReadFault`] no further call of the reader means anything. The reader takes from its source
+/// no more bytes than the head's numbers give, and one more to see the end.
 #[derive(Drop)]
 pub struct BatchReader<'a, S> {
     source: &'a mut S,
-    reports: u32,
+    place: u64,
+    shares: u32,
+    proofs: u32,
+    claims: u32,
     left: u32,
-    ghost in_range: { left ≤ reports },
+    shape: Shape,
 }
 
 impl<'a, S: Source> BatchReader<'a, S> {
-    ghost use Rattle.flp_report.specs.Shape.{IsCountShape};
+    ghost use Rattle.flp_report.specs.Shape.{bytes_of};
+    ghost use Rattle.flp_report.specs.Batch.{IsHead, IsInLimits, batch_letters, large_fault, claims_fault};
+    ghost use Rattle.flp_report.specs.Head.{head_fault};
+    ghost use Rattle.flp_report.specs.Pieces.{fall_in};
+    ghost use Rattle.flp_report.specs.Nonces.{nonce_bytes, nonce_count, nonces_in};
     ghost use Rattle.flp_report.specs.Segment.{shape_in, room_of, used_in, held_in};
-    ghost use Rattle.flp_report.specs.Reader.{source_of, loan_of, SameLoan, reports_given, reports_left, place_of, size_of_file, count_header};
+    ghost use Rattle.flp_report.specs.Reader.{source_of, loan_of, SameLoan, place_of, shares_given, proofs_given, claims_left, reports_left, shape_given, size_of_file, IsShaped};
 
     /// A reader whose batch begins at the source's next byte. It reads nothing yet.
     pub fn new(source: &'a mut S) -> BatchReader<'a, S>
         ensures same { loan_of result ≡ source.entry.ghost_name }
         ensures source { source_of result ≡ source.old }
+        ensures place { place_of result ≡ 0 }
     {
         BatchReader {
             source,
-            reports: 0,
+            place: 0,
+            shares: 0,
+            proofs: 0,
+            claims: 0,
             left: 0,
+            shape: Shape::NONE,
         }
     }
 
-    /// Reads what stands in front of the records: the head of 32 bytes and the text of 10. The
-    /// `party` must be `None`.
+    /// Reads what stands in front of the old claims: the head of 32 bytes and the circuit text. The
+    /// text's room grows as its bytes come.
     ///
-    /// An error is the first fault of the file up to its text: [`BatchFault::Truncated`] with a need
-    /// of 32 or 42 bytes, or [`ReadFault::NotBuilt`]; or else [`ReadFault::Failed`], or
-    /// [`ReadFault::Memory`] where the header's text found no room.
+    /// An error is the first fault of the file up to the end of its text; or else
+    /// [`ReadFault::Failed`] or [`ReadFault::Memory`]. Where a party is given, more shares than its
+    /// number are needed, and [`BatchFault::Party`] has its place among the faults.
     pub fn head(&mut self, alloc: Global, party: Option<u32>) -> Result<Header, ReadFault>
-        requires { party ≡ None }
+        requires { place_of self.old ≡ 0 }
         ensures same { SameLoan self.old self.new }
-        ensures bytes { IfOk result (λ header. (bytes : List ℕ) × IsHead bytes header.reports
+        ensures bytes { IfOk result (λ header. (bytes : List ℕ) × IsHead party bytes header
             × Consumes (S.left (source_of self.old)) (S.left (source_of self.new)) bytes) }
-        ensures header { IfOk result (λ header. header ≡ count_header header.reports) }
-        ensures given { IfOk result (λ header. reports_given self.new ≡ header.reports) }
-        ensures left { IfOk result (λ header. reports_left self.new ≡ header.reports) }
-        ensures fault { IfErr result (λ fault. fault ≢ ReadFault.Memory → fault ≢ ReadFault.Failed
-            → IfSome (S.left (source_of self.old)) (λ bytes. fault_of bytes ≡ Some fault)) }
-        ensures early { (have need : ℕ) → result ≡ Err (ReadFault.Batch (BatchFault.Truncated have need)) → (need ≡ 32) ⊎ (need ≡ 42) }
-        ensures not_trailing { result ≢ Err (ReadFault.Batch BatchFault.Trailing) }
+        ensures limits { IfOk result (λ header. IsInLimits party header) }
+        ensures place { IfOk result (λ header. place_of self.new ≡ 32 + length header.text) }
+        ensures numbers { IfOk result (λ header. (shares_given self.new ≡ header.shares) × (proofs_given self.new ≡ header.proofs)) }
+        ensures left { IfOk result (λ header. (claims_left self.new ≡ header.claims) × (reports_left self.new ≡ header.reports)) }
+        ensures fault { IfErr result (λ fault. IfBatch fault (λ b. IfSome (S.left (source_of self.old))
+            (λ bytes. head_fault batch_letters 32 party bytes ≡ Some b))) }
 
         // At every outcome.
         ensures moved { ConsumesSome (S.left (source_of self.old)) (S.left (source_of self.new)) }
-        ensures few { ConsumesAtMost 42 (S.left (source_of self.old)) (S.left (source_of self.new)) }
+        ensures few { ConsumesAtMost 65568 (S.left (source_of self.old)) (S.left (source_of self.new)) }
         ensures failed { result ≡ Err ReadFault.Failed → Rose (S.faults (source_of self.old)) (S.faults (source_of self.new)) }
         ensures later { S.faults (source_of self.old) ≤ S.faults (source_of self.new) }
     {
-        let reports = read_head(self.source)?;
-        let text = Bytes::from_vec(COUNT_TEXT.to_vec(alloc)?);
-        self.reports = reports;
-        self.left = reports;
+        let mut head = [0; 32];
+        let text = match read_head(alloc, self.source, &mut head, &LETTERS, party) {
+            Ok(text) => text,
+            Err(fault) => return Err(fault),
+        };
+        self.place = HEAD_BYTES + text.len() as u64;
+        self.shares = number_at(&head, 12);
+        self.proofs = number_at(&head, 16);
+        self.claims = number_at(&head, 24);
+        self.left = number_at(&head, 28);
         Ok(Header {
-            shares: 2,
-            proofs: 1,
-            text,
-            claims: 0,
-            reports,
+            shares: self.shares,
+            proofs: self.proofs,
+            text: Bytes::from_vec(text),
+            claims: self.claims,
+            reports: self.left,
         })
     }
 
-    /// Reads the next `count` records into the room, 120 bytes each: at most the reports that are
-    /// left, and at most what the room holds. It takes no memory.
+    /// Sets the lengths of the parts of a record. It reads nothing and takes no memory.
+    ///
+    /// The error is [`BatchFault::TooLarge`] with the first size, in bytes, that is above its limit:
+    /// that of a record, of all old claims, of the whole file.
+    pub fn shape(&mut self, shape: Shape) -> Result<(), ReadFault>
+        requires shares { shape.shares ≡ shares_given self.old }
+        requires proofs { shape.proofs ≡ proofs_given self.old }
+        requires place { place_of self.old ≤ 65568 }
+        ensures same { SameLoan self.old self.new }
+        ensures source { source_of self.new ≡ source_of self.old }
+        ensures none { OnOk result (large_fault shape (place_of self.old) (claims_left self.old) (reports_left self.old) ≡ None) }
+        ensures fault { OnErr result ((b : BatchFault) × (result ≡ Err (ReadFault.Batch b))
+            × (large_fault shape (place_of self.old) (claims_left self.old) (reports_left self.old) ≡ Some b)) }
+        ensures shape { OnOk result (shape_given self.new ≡ shape) }
+        ensures shaped { OnOk result (IsShaped self.new) }
+        ensures left { OnOk result ((claims_left self.new ≡ claims_left self.old) × (reports_left self.new ≡ reports_left self.old)) }
+        ensures place { OnOk result (place_of self.new ≡ place_of self.old) }
+    {
+        let record = shape.bytes();
+        if RECORD_LIMIT < record {
+            return Err(ReadFault::Batch(BatchFault::TooLarge(record)));
+        }
+        let claims = 16 * u64::from(self.claims);
+        if CLAIMS_LIMIT < claims {
+            return Err(ReadFault::Batch(BatchFault::TooLarge(claims)));
+        }
+        let file = self.place + claims + u64::from(self.left) * record;
+        if FILE_LIMIT < file {
+            return Err(ReadFault::Batch(BatchFault::TooLarge(file)));
+        }
+        self.shape = shape;
+        Ok(())
+    }
+
+    /// Reads the old claims. Their room grows as their bytes come.
+    ///
+    /// An error is the first fault of the file among its old claims: [`BatchFault::Truncated`] with
+    /// the bytes of the file that came and those up to the last claim, or
+    /// [`BatchFault::ClaimsOrder`]; or else [`ReadFault::Failed`] or [`ReadFault::Memory`].
+    pub fn claims(&mut self, alloc: Global) -> Result<Nonces, ReadFault>
+        requires { IsShaped self.old }
+        ensures same { SameLoan self.old self.new }
+        ensures bytes { IfOk result (λ claims. Consumes (S.left (source_of self.old)) (S.left (source_of self.new)) (nonce_bytes claims)) }
+        ensures count { IfOk result (λ claims. nonce_count claims ≡ claims_left self.old) }
+        ensures rising { IfOk result (λ claims. fall_in (nonces_in claims) ≡ None) }
+        ensures fault { IfErr result (λ fault. IfBatch fault (λ b. IfSome (S.left (source_of self.old))
+            (λ rest. claims_fault (place_of self.old) (claims_left self.old) rest ≡ Some b))) }
+        ensures shaped { OnOk result (IsShaped self.new) }
+        ensures shape { OnOk result (shape_given self.new ≡ shape_given self.old) }
+        ensures size { OnOk result (size_of_file self.new ≡ size_of_file self.old) }
+        ensures left { OnOk result ((claims_left self.new ≡ 0) × (reports_left self.new ≡ reports_left self.old)) }
+        ensures place { OnOk result (place_of self.new ≡ place_of self.old + 16 * claims_left self.old) }
+
+        // At every outcome.
+        ensures moved { ConsumesSome (S.left (source_of self.old)) (S.left (source_of self.new)) }
+        ensures few { ConsumesAtMost (16 * claims_left self.old) (S.left (source_of self.old)) (S.left (source_of self.new)) }
+        ensures failed { result ≡ Err ReadFault.Failed → Rose (S.faults (source_of self.old)) (S.faults (source_of self.new)) }
+        ensures later { S.faults (source_of self.old) ≤ S.faults (source_of self.new) }
+    {
+        let wanted = 16 * self.claims as usize;
+        let end = self.place + wanted as u64;
+        let bytes = match read_growing(alloc, self.source, wanted, self.place, end) {
+            Ok(bytes) => bytes,
+            Err(fault) => return Err(fault),
+        };
+        let claims = Nonces::from_vec(self.claims, bytes);
+        if let Some(number) = claims.first_fall() {
+            return Err(ReadFault::Batch(BatchFault::ClaimsOrder(number)));
+        }
+        self.place = end;
+        self.claims = 0;
+        Ok(claims)
+    }
+
+    /// Reads the next `count` records into the room: at most the reports that are left, and at most
+    /// what the room holds, which was made for this reader's shape, or one of as many bytes. It takes
+    /// no memory.
     ///
     /// An error is [`BatchFault::Truncated`] with the bytes of the file that came and those of the
     /// whole file, or [`ReadFault::Failed`]; the room then holds no record.
     pub fn segment(&mut self, count: u32, room: &mut Segment) -> Result<(), ReadFault>
+        requires shaped { IsShaped self.old }
+        requires claims { claims_left self.old ≡ 0 }
         requires left { count ≤ reports_left self.old }
-        requires shape { IsCountShape (shape_in room.old) }
+        requires shape { bytes_of (shape_in room.old) ≡ bytes_of (shape_given self.old) }
         requires room { count ≤ room_of room.old }
         ensures same { SameLoan self.old self.new }
         ensures records { OnOk result (Consumes (S.left (source_of self.old)) (S.left (source_of self.new)) (held_in room.new)) }
         ensures used { OnOk result (used_in room.new ≡ count) }
-        ensures left { OnOk result (reports_left self.new + count ≡ reports_left self.old) }
-        ensures given { reports_given self.new ≡ reports_given self.old }
-        ensures shape { shape_in room.new ≡ shape_in room.old }
-        ensures room { room_of room.new ≡ room_of room.old }
-        ensures fault { OnErr result ((result ≡ Err ReadFault.Failed)
-            ⊎ ((n : ℕ) × (result ≡ Err (ReadFault.Batch (BatchFault.Truncated (place_of self.old + n) (size_of_file self.old))))
-            × (n < 120 * count) × IfSome (S.left (source_of self.old)) (λ left. length left ≡ n))) }
+        ensures room { (shape_in room.new ≡ shape_in room.old) × (room_of room.new ≡ room_of room.old) }
+        ensures fault { IfErr result (λ fault. IfBatch fault
+            (EndedShort (S.left (source_of self.old)) (place_of self.old) (count * bytes_of (shape_given self.old)) (size_of_file self.old))) }
+        ensures no_memory { result ≢ Err ReadFault.Memory }
         ensures none_held { OnErr result (used_in room.new ≡ 0) }
+        ensures shaped { OnOk result (IsShaped self.new) }
+        ensures shape { OnOk result (shape_given self.new ≡ shape_given self.old) }
+        ensures size { OnOk result (size_of_file self.new ≡ size_of_file self.old) }
+        ensures left { OnOk result ((claims_left self.new ≡ 0) × (reports_left self.new + count ≡ reports_left self.old)) }
+        ensures place { OnOk result (place_of self.new ≡ place_of self.old + count * bytes_of (shape_given self.old)) }
 
         // At every outcome.
         ensures moved { ConsumesSome (S.left (source_of self.old)) (S.left (source_of self.new)) }
-        ensures few { ConsumesAtMost (120 * count) (S.left (source_of self.old)) (S.left (source_of self.new)) }
+        ensures few { ConsumesAtMost (count * bytes_of (shape_given self.old)) (S.left (source_of self.old)) (S.left (source_of self.new)) }
         ensures failed { result ≡ Err ReadFault.Failed → Rose (S.faults (source_of self.old)) (S.faults (source_of self.new)) }
         ensures later { S.faults (source_of self.old) ≤ S.faults (source_of self.new) }
     {
         room.used = 0;
-        let place = HEAD_BYTES + RECORD_BYTES * u64::from(self.reports - self.left);
-        let size = HEAD_BYTES + RECORD_BYTES * u64::from(self.reports);
-        let wanted = RECORD_BYTES as usize * count as usize;
-        read_front(self.source, room.bytes.as_mut_slice(), wanted, place, size)?;
+        let record = self.shape.bytes();
+        let wanted = u64::from(count) * record;
+        let file = self.place + u64::from(self.left) * record;
+        match read_front(
+            self.source,
+            room.bytes.as_mut_slice(),
+            wanted as usize,
+            self.place,
+            file,
+        ) {
+            Ok(()) => {}
+            Err(fault) => return Err(fault),
+        }
         room.used = count;
+        self.place += wanted;
         self.left -= count;
         Ok(())
     }
@@ -256,7 +240,7 @@ impl<'a, S: Source> BatchReader<'a, S> {
     ///
     /// An error is [`BatchFault::Trailing`] where a byte follows, or [`ReadFault::Failed`].
     pub fn end(&mut self) -> Result<(), ReadFault>
-        requires { reports_left self.old ≡ 0 }
+        requires { (claims_left self.old ≡ 0) × (reports_left self.old ≡ 0) }
         ensures same { SameLoan self.old self.new }
         ensures ended { OnOk result (IsAtEnd (S.left (source_of self.new))) }
         ensures none_read { OnOk result (Consumes (S.left (source_of self.old)) (S.left (source_of self.new)) []) }

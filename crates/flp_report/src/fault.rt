@@ -1,17 +1,35 @@
-//! Why a batch is not read to its end.
+//! Why a batch or a job file is not read to its end.
 ghost use Rattle.std.specs.Prelude.{◌≡◌};
 ghost use Rattle.flp_report.specs.declared.fault.ReadFault.TheVariants.{Memory as OutOfMemory};
 
 use std::alloc::AllocError;
 
-/// Why the bytes are no batch of the kind that its head tells. The numbers are counts of bytes of
-/// the file.
+/// The first thing that is wrong with a file, in the one order of faults. Sizes are in bytes.
 #[derive(Clone, Copy, Debug, PartialEq, Eq)]
 pub enum BatchFault {
+    /// The file begins with other letters.
+    Magic,
+    /// The version, which is not 1.
+    Version(u32),
+    /// The number of shares, which is outside 2 to 16.
+    Shares(u32),
+    /// The number of proofs, which is outside 1 to 16.
+    Proofs(u32),
+    /// The length of the circuit text, which is above 65,536.
+    TextLength(u32),
+    /// The number, from 1, of the first old claim that is not above the one before.
+    ClaimsOrder(u32),
+    /// The size that is above its limit: of a record, of the old claims or of the whole file.
+    TooLarge(u64),
     /// The input ended after the first number of bytes, where the second was needed.
     Truncated(u64, u64),
     /// A byte follows the last record.
     Trailing,
+    /// In a job file alone: the number of the job and the number of its first word that is not
+    /// below the modulus.
+    Word(u32, u32),
+    /// Where a party is asked for alone: the number of shares, which is not above the party.
+    Party(u32),
 }
 
 /// Why a call of a reader gave nothing. After any of these the reader answers no further call.
@@ -21,9 +39,7 @@ pub enum ReadFault {
     Memory,
     /// The source failed in this call, and its count of faults rose.
     Failed,
-    /// The head or the text is not that of a batch of Count reports, the one kind that is built.
-    NotBuilt,
-    /// The bytes are no batch.
+    /// The bytes are no file of the kind that is read.
     Batch(BatchFault),
 }
 

@@ -1,37 +1,72 @@
-//! The batch file: the reports that `flp` verifies, read piece by piece and lent without copying.
+//! The files that `flp` reads and writes: batches of reports, and job files from which batches are
+//! made. They are read piece by piece, and their bytes are lent without copying.
 //!
-//! A batch is a head of 32 bytes, the circuit text, and the records, each a nonce of 16 bytes and
-//! then words of 8 bytes, all numbers little-endian. `specs/Batch.antt` says of every list of bytes
-//! which is its first fault, or that it is a batch, and which records stand whole behind a head and
-//! a text without fault.
+//! A batch is a head of 32 bytes, the circuit text, old claims of 16 bytes each in rising order, and
+//! the records. A job file is a head of 28 bytes, the circuit text, and the jobs. Each record and
+//! each job is a nonce of 16 bytes and then words of 8 bytes. All numbers are little-endian.
+//!
+//! `specs/Batch.antt` and `specs/Job.antt` say of every list of bytes which is its first fault, or
+//! that it is a batch or a job file. They know no circuit: the lengths of the parts are a [`Shape`]
+//! or a [`JobShape`], which the caller makes from the plan of the head's text. A failed read is told
+//! where it happens, in place of what would follow.
 //!
 //! | To | Use |
 //! |---|---|
-//! | read a batch from a [`flp_io::Source`] | [`BatchReader`]: `head`, then `segment` over all reports, then `end` |
+//! | read a batch from a [`flp_io::Source`] | [`BatchReader`]: `head`, `shape`, `claims`, then `segment` over all reports, then `end` |
 //! | hold the records that were read | [`Segment`], made once for a [`Shape`] and filled again and again |
 //! | look at one record | [`Record`], which `Segment::record_at` lends: its nonce, the parts of its shares, its words |
 //! | bring the bytes of words into the field | [`load`], where `Record::bad_word` found none |
+//! | write a batch to a [`flp_io::Sink`] | [`write_head`], [`write_claims`], then [`write_record`] for each report |
+//! | read a job file | [`JobReader`]: `head`, `shape`, `jobs`, `end` |
+//! | look at one job | [`Job`], which [`Jobs::job_at`] lends; [`load_numbers`] for its input |
+//! | know what the calls, one after the other, say of a whole file | [`first_faults`], [`record_faults`], [`read_records`], [`reads_back`], [`first_job_faults`], [`job_faults`] |
 //!
-//! Today a batch is one of Count reports: two shares, one proof, the text `use count;` and no old
-//! claims, 120 bytes a report. Every other head or text is [`ReadFault::NotBuilt`]. The faults come
-//! in one order: the input ends within the head, another head, it ends within the text, another
-//! text, it ends within the records, a byte follows the last record. A failed read is told where it
-//! happens, in place of what would follow.
+//! [`CountReader`] reads batches of Count reports alone: two shares, one proof, the text
+//! `use count;` and no old claims. Every other head or text is [`CountFault::NotBuilt`] to it. It
+//! serves until the program verifies every circuit.
 #![tactic(auto)]
 
 mod batch;
+mod count;
+mod count_fault;
+#[cfg(test)]
+mod count_tests;
 mod fault;
+mod head;
+mod header;
+mod job;
+mod job_reader;
+mod job_shape;
+#[cfg(test)]
+mod job_tests;
+mod laws;
+mod nonces;
+mod read;
 mod record;
 mod segment;
 mod shape;
 #[cfg(test)]
 mod tests;
+mod write;
+#[cfg(test)]
+mod write_tests;
 
-pub use batch::{BatchReader, Header};
+pub use batch::BatchReader;
+pub use count::CountReader;
+pub use count_fault::{CountBatchFault, CountFault};
 pub use fault::{BatchFault, ReadFault};
-pub use record::{Record, load};
+pub use header::Header;
+pub use job::{Job, Jobs};
+pub use job_reader::JobReader;
+pub use job_shape::{JobHeader, JobShape};
+pub use laws::{
+    first_faults, first_job_faults, job_faults, read_records, reads_back, record_faults,
+};
+pub use nonces::Nonces;
+pub use record::{Record, load, load_numbers};
 pub use segment::Segment;
-pub use shape::{RECORD_LIMIT, Shape};
+pub use shape::{CLAIMS_LIMIT, FILE_LIMIT, RECORD_LIMIT, Shape};
+pub use write::{write_claims, write_head, write_record};
 
 /// Want of memory, as std's allocators answer it.
 pub use std::alloc::AllocError as Memory;

@@ -101,7 +101,7 @@ impl<'a> Record<'a> {
 }
 
 /// The number in the 8 bytes of this place.
-fn number_at(bytes: &[u8], index: usize) -> u64
+pub(crate) fn number_at(bytes: &[u8], index: usize) -> u64
     requires { 8 * index + 8 ≤ length bytes.now }
     ensures { result ≡ little_number 8 (drop (8 * index) bytes.now) }
 {
@@ -117,5 +117,16 @@ pub fn load(bytes: &[u8], out: &mut [Fe])
 {
     for (index, word) in out.iter_mut().enumerate() {
         *word = Fe::new(number_at(bytes, index)).unwrap();
+    }
+}
+
+/// Brings the numbers in `bytes`, 8 bytes each and of any value, into `out`, in their order. There
+/// are as many as `out` has places.
+pub fn load_numbers(bytes: &[u8], out: &mut [u64])
+    requires { length bytes.now ≡ 8 * length out.old }
+    ensures { out.new ≡ words (length out.old) bytes.now }
+{
+    for (index, number) in out.iter_mut().enumerate() {
+        *number = number_at(bytes, index);
     }
 }

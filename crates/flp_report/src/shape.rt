@@ -4,6 +4,12 @@ ghost use Rattle.std.specs.Prelude.{◌≡◌, ◌^◌, ◌<◌, ◌≤◌};
 /// The most bytes of one record.
 pub const RECORD_LIMIT: u64 = 16777216;
 
+/// The most bytes of all old claims of a batch.
+pub const CLAIMS_LIMIT: u64 = 268435456;
+
+/// The most bytes of a whole file.
+pub const FILE_LIMIT: u64 = 1073741824;
+
 /// How many shares and proofs a record has, at most 16 each, and how many words each part has,
 /// whatever the circuit.
 ///
@@ -32,6 +38,16 @@ impl Shape {
         joint: 0,
         query: 1,
         proof: 5,
+    };
+
+    /// The shape with nothing but a nonce, which a reader has before it is given one.
+    pub(crate) const NONE: Shape = Shape {
+        shares: 0,
+        proofs: 0,
+        meas: 0,
+        joint: 0,
+        query: 0,
+        proof: 0,
     };
 
     /// The words of one share's part of a record.

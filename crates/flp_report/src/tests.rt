@@ -1,79 +1,143 @@
-//! The example batch read piece by piece, each fault with its numbers, and a record of another shape.
-use crate::BatchFault::{Trailing, Truncated};
-use crate::ReadFault::{Batch, NotBuilt};
-use crate::record::Record;
-use crate::{BatchReader, Header, Memory, ReadFault, Segment, Shape, load};
-use flp_field::{Fe, MODULUS};
+//! Files of every kind read piece by piece, and each fault with its numbers.
+use crate::BatchFault::{
+    ClaimsOrder, Magic, Party, Proofs, Shares, TextLength, TooLarge, Trailing, Truncated, Version,
+};
+use crate::ReadFault::{self, Batch};
+use crate::count_tests::EXAMPLE;
+use crate::{BatchReader, Memory, Segment, Shape};
 use flp_io::{MemorySource, Source};
-use flp_list::Bytes;
 use std::alloc::Global;
 use std::test::Fail;
 
-// A batch of one Count report of the measurement 1, whose second share is all ones.
-const EXAMPLE: &[u8] = b"FLPBATCH\x01\0\0\0\x02\0\0\0\x01\0\0\0\x0a\0\0\0\0\0\0\0\x01\0\0\0\
-    use count;\
-    \x00\x01\x02\x03\x04\x05\x06\x07\x08\x09\x0a\x0b\x0c\x0d\x0e\x0f\
-    \0\0\0\0\0\0\0\0\x02\0\0\0\0\0\0\0\x04\0\0\0\0\0\0\0\
-    \x05\0\0\0\0\0\0\0\x06\0\0\0\0\0\0\0\x01\0\0\0\0\0\0\0\
-    \x01\0\0\0\0\0\0\0\x01\0\0\0\0\0\0\0\x01\0\0\0\0\0\0\0\
-    \x01\0\0\0\0\0\0\0\x01\0\0\0\0\0\0\0\x01\0\0\0\0\0\0\0\
-    \x02\0\0\0\0\0\0\0";
+// The numbers of old claims and of reports of a file that is read to its end, in records of one
+// measurement and a proof of five words.
+fn read_to_end<S: Source>(
+    alloc: Global,
+    source: &mut S,
+    party: Option<u32>,
+) -> Result<(u32, u32), ReadFault> {
+    let mut reader = BatchReader::new(source);
+    let header = reader.head(alloc, party)?;
+    let shape = Shape {
+        shares: header.shares,
+        proofs: header.proofs,
+        meas: 1,
+        joint: 0,
+        query: 1,
+        proof: 5,
+    };
+    reader.shape(shape)?;
+    let claims = reader.claims(alloc)?;
+    let count = header.reports.min(3);
+    let mut room = Segment::new(alloc, &shape, count)?;
+    reader.segment(count, &mut room)?;
+    if count == header.reports {
+        reader.end()?;
+    }
+    Ok((claims.len(), header.reports))
+}
 
-// The modulus in 8 bytes.
-const NO_WORD: [u8; 8] = [1, 0, 0, 0, 255, 255, 255, 255];
-
-// The example with its record once more, and one byte behind that.
-fn longer_file(alloc: Global) -> Result<Vec<u8>, Memory> {
-    let mut file = EXAMPLE.to_vec(alloc)?;
+// The example with two old claims, 7 and 9, in front of its record, and one byte behind it.
+fn file_with_claims(alloc: Global) -> Result<Vec<u8>, Memory> {
+    let mut file = EXAMPLE.get(..42).unwrap_or(b"").to_vec(alloc)?;
+    file.extend_from_slice(&[7; 16])?;
+    file.extend_from_slice(&[9; 16])?;
     file.extend_from_slice(EXAMPLE.get(42..).unwrap_or(b""))?;
     file.push(0)?;
     Ok(file)
 }
 
-// Reads a batch to its end and answers the number of its reports.
-fn read_to_end<S: Source>(alloc: Global, source: &mut S) -> Result<u32, ReadFault> {
-    let mut reader = BatchReader::new(source);
-    let header = reader.head(alloc, None)?;
-    let mut room = Segment::new(alloc, &Shape::COUNT, header.reports)?;
-    reader.segment(header.reports, &mut room)?;
-    reader.end()?;
-    Ok(header.reports)
-}
-
-// Bytes of the longer file that are changed, the size to which it is cut, and the answer.
-const READINGS: &[(&[(usize, u8)], usize, Result<u32, ReadFault>)] = &[
-    (&[], 162, Ok(1)),
-    (&[(28, 0)], 42, Ok(0)),
-    (&[(28, 2)], 282, Ok(2)),
-    // Cut within the head, the text and the records.
-    (&[], 0, Err(Batch(Truncated(0, 32)))),
-    (&[(8, 2)], 31, Err(Batch(Truncated(31, 32)))),
-    (&[], 32, Err(Batch(Truncated(32, 42)))),
-    (&[(36, b'C')], 41, Err(Batch(Truncated(41, 42)))),
-    (&[], 42, Err(Batch(Truncated(42, 162)))),
-    (&[], 161, Err(Batch(Truncated(161, 162)))),
-    (&[(28, 3)], 282, Err(Batch(Truncated(282, 402)))),
-    (&[(28, 0), (29, 1)], 283, Err(Batch(Truncated(283, 30762)))),
-    // Another head, or another text.
-    (&[(0, b'f')], 162, Err(NotBuilt)),
-    (&[(8, 2)], 32, Err(NotBuilt)),
-    (&[(12, 3)], 162, Err(NotBuilt)),
-    (&[(16, 2)], 162, Err(NotBuilt)),
-    (&[(20, 11)], 162, Err(NotBuilt)),
-    (&[(27, 1)], 162, Err(NotBuilt)),
-    (&[(36, b'C')], 42, Err(NotBuilt)),
-    (&[(41, b' ')], 161, Err(NotBuilt)),
+// Bytes of the file with claims that are changed, the size to which it is cut, the party, and the
+// answer. Without a change its head gives no claims, and so a record of 120 bytes and 33 more.
+const READINGS: &[(
+    &[(usize, u8)],
+    usize,
+    Option<u32>,
+    Result<(u32, u32), ReadFault>,
+)] = &[
+    (&[], 162, None, Ok((0, 1))),
+    (&[(24, 2)], 194, Some(1), Ok((2, 1))),
+    (&[(24, 1), (28, 0)], 58, None, Ok((1, 0))),
+    (
+        &[(12, 3), (16, 1)],
+        194,
+        Some(2),
+        Err(Batch(Truncated(194, 210))),
+    ),
+    // One number of the head, each tested in front of those behind it and of the size.
+    (&[(0, b'f'), (8, 2)], 32, None, Err(Batch(Magic))),
+    (&[(7, b'h')], 162, None, Err(Batch(Magic))),
+    (&[(8, 0), (12, 1)], 162, None, Err(Batch(Version(0)))),
+    (&[(8, 2)], 162, None, Err(Batch(Version(2)))),
+    (&[(11, 1)], 162, None, Err(Batch(Version(16777217)))),
+    (&[(12, 1), (16, 0)], 162, Some(9), Err(Batch(Shares(1)))),
+    (&[(12, 17)], 162, None, Err(Batch(Shares(17)))),
+    (&[(16, 0)], 162, Some(2), Err(Batch(Proofs(0)))),
+    (&[(16, 17)], 162, None, Err(Batch(Proofs(17)))),
+    (&[(22, 2)], 162, Some(2), Err(Batch(Party(2)))),
+    (&[(12, 16)], 41, Some(16), Err(Batch(Party(16)))),
+    (
+        &[(20, 1), (22, 1)],
+        32,
+        Some(1),
+        Err(Batch(TextLength(65537))),
+    ),
+    // A size above its limit, in front of what is missing.
+    (
+        &[(28, 64), (29, 84), (30, 137)],
+        42,
+        None,
+        Err(Batch(TooLarge(1080000042))),
+    ),
+    (
+        &[(24, 1), (27, 1)],
+        42,
+        None,
+        Err(Batch(TooLarge(268435472))),
+    ),
+    (
+        &[(24, 1), (27, 1), (31, 255)],
+        42,
+        None,
+        Err(Batch(TooLarge(268435472))),
+    ),
+    // Cut within the head, the text, the claims and the records.
+    (&[(0, b'f')], 31, None, Err(Batch(Truncated(31, 32)))),
+    (
+        &[(20, 0), (22, 1)],
+        195,
+        None,
+        Err(Batch(Truncated(195, 65568))),
+    ),
+    (&[], 41, None, Err(Batch(Truncated(41, 42)))),
+    (&[(24, 2), (42, 9)], 73, None, Err(Batch(Truncated(73, 74)))),
+    (&[(27, 1)], 195, None, Err(Batch(Truncated(195, 268435498)))),
+    (&[(24, 2)], 193, None, Err(Batch(Truncated(193, 194)))),
+    (
+        &[(28, 136), (29, 136), (30, 136)],
+        195,
+        None,
+        Err(Batch(Truncated(195, 1073741802))),
+    ),
+    // Old claims that do not rise.
+    (
+        &[(24, 2), (42, 9), (57, 9)],
+        100,
+        None,
+        Err(Batch(Truncated(100, 194))),
+    ),
+    (&[(24, 2), (42, 10)], 100, None, Err(Batch(ClaimsOrder(1)))),
+    (&[(24, 3), (74, 8)], 195, None, Err(Batch(ClaimsOrder(2)))),
     // A byte behind the last record.
-    (&[(28, 0)], 43, Err(Batch(Trailing))),
-    (&[], 163, Err(Batch(Trailing))),
-    (&[(28, 2)], 283, Err(Batch(Trailing))),
+    (&[(24, 2)], 195, None, Err(Batch(Trailing))),
+    (&[(28, 0)], 43, None, Err(Batch(Trailing))),
 ];
 
 #[test]
 fn readings_end_at_their_first_fault(rt: HostRuntime) -> Result<(), Fail> {
-    for (number, (changes, size, answer)) in READINGS.iter().enumerate() {
-        for step in [1, 7, 1000] {
-            let mut file = longer_file(rt.alloc())?;
+    for (number, (changes, size, party, answer)) in READINGS.iter().enumerate() {
+        for step in [1, 7, 100000] {
+            let mut file = file_with_claims(rt.alloc())?;
             for (place, byte) in *changes {
                 assert!(rt; *place < file.len());
                 file[*place] = *byte;
@@ -81,122 +145,62 @@ fn readings_end_at_their_first_fault(rt: HostRuntime) -> Result<(), Fail> {
             file.truncate(*size);
             assert_eq!(rt; file.len(), *size);
             let mut source = MemorySource::new(file, step, Vec::new(rt.alloc()));
-            let read = read_to_end(rt.alloc(), &mut source);
+            let read = read_to_end(rt.alloc(), &mut source, *party);
             assert_eq!(rt; read, *answer, "reading {number} by {step}");
         }
     }
     Ok(())
 }
 
+// The file with claims, where both are the same.
+#[test]
+fn equal_claims_are_refused(rt: HostRuntime) -> Result<(), Fail> {
+    let mut file = EXAMPLE.get(..42).unwrap_or(b"").to_vec(rt.alloc())?;
+    assert!(rt; file.len() == 42);
+    file[24] = 2;
+    file.extend_from_slice(&[7; 32])?;
+    let mut source = MemorySource::new(file, 100, Vec::new(rt.alloc()));
+    let read = read_to_end(rt.alloc(), &mut source, None);
+    assert_eq!(rt; read, Err(Batch(ClaimsOrder(1))));
+    Ok(())
+}
+
 #[test]
 fn a_failed_read_is_told(rt: HostRuntime) -> Result<(), Fail> {
-    for call in 0..164 {
+    for call in 0..196 {
         let fails = [call].to_vec(rt.alloc())?;
-        let mut source = MemorySource::new(EXAMPLE.to_vec(rt.alloc())?, 1, fails);
-        let answer = if call < 163 {
+        let mut file = file_with_claims(rt.alloc())?;
+        assert!(rt; 24 < file.len());
+        file[24] = 2;
+        file.truncate(194);
+        let mut source = MemorySource::new(file, 1, fails);
+        let answer = if call < 195 {
             Err(ReadFault::Failed)
         } else {
-            Ok(1)
+            Ok((2, 1))
         };
-        assert_eq!(rt;
-            read_to_end(rt.alloc(), &mut source),
-            answer,
-            "at call {call}"
-        );
+        let read = read_to_end(rt.alloc(), &mut source, None);
+        assert_eq!(rt; read, answer, "at call {call}");
     }
     Ok(())
 }
 
 #[test]
-fn the_example_has_these_parts(rt: HostRuntime) -> Result<(), Fail> {
-    let mut file = longer_file(rt.alloc())?;
-    assert_eq!(rt; file.len(), 283);
-    file[28] = 2;
-    file.truncate(282);
-    assert_eq!(rt; file.len(), 282);
-    file[226..234].copy_from_slice(&NO_WORD);
-    let mut source = MemorySource::new(file, 1000, Vec::new(rt.alloc()));
+fn claims_are_lent_in_order(rt: HostRuntime) -> Result<(), Fail> {
+    let mut file = file_with_claims(rt.alloc())?;
+    assert!(rt; 24 < file.len());
+    file[24] = 2;
+    let mut source = MemorySource::new(file, 10, Vec::new(rt.alloc()));
     let mut reader = BatchReader::new(&mut source);
     let header = reader.head(rt.alloc(), None)?;
-    let text = Bytes::from_vec(b"use count;".to_vec(rt.alloc())?);
+    assert_eq!(rt; header.text.as_slice(), b"use count;".as_slice());
+    assert!(rt; header.shares == 2 && header.proofs == 1);
+    reader.shape(Shape::COUNT)?;
+    let claims = reader.claims(rt.alloc())?;
+    assert!(rt; claims.len() == 2 && !claims.is_empty());
     assert_eq!(rt;
-        header,
-        Header {
-            shares: 2,
-            proofs: 1,
-            text,
-            claims: 0,
-            reports: 2
-        }
+        (claims.at(0), claims.at(1)),
+        ([7; 16].as_slice(), [9; 16].as_slice())
     );
-    let mut room = Segment::new(rt.alloc(), &Shape::COUNT, 2)?;
-    assert!(rt; header.reports == 2);
-
-    reader.segment(1, &mut room)?;
-    let record = room.record_at(0);
-    assert_eq!(rt; record.nonce(), EXAMPLE.get(42..58).unwrap_or(b""));
-    assert_eq!(rt; record.share(0), EXAMPLE.get(58..106).unwrap_or(b""));
-    assert_eq!(rt; record.share(1), EXAMPLE.get(106..154).unwrap_or(b""));
-    assert_eq!(rt; record.joint(0).len(), 0);
-    assert_eq!(rt; record.query(0), EXAMPLE.get(154..).unwrap_or(b""));
-    assert_eq!(rt; record.bad_word(), None);
-
-    reader.segment(1, &mut room)?;
-    assert_eq!(rt; room.record_at(0).bad_word(), Some(6));
-    reader.end()?;
     Ok(())
-}
-
-// Bytes that each have the number of their 8: behind a nonce, word w is made of the byte w + 2.
-fn numbered_eights() -> [u8; 720] {
-    let mut bytes = [0; 720];
-    for (place, byte) in bytes.iter_mut().enumerate() {
-        *byte = (place / 8 % 256) as u8;
-    }
-    bytes
-}
-
-#[test]
-fn another_shape_has_these_parts(rt: HostRuntime) {
-    let shape = Shape {
-        shares: 3,
-        proofs: 2,
-        meas: 4,
-        joint: 2,
-        query: 3,
-        proof: 11,
-    };
-    assert_eq!(rt; (shape.words(), shape.bytes()), (88, 720));
-
-    let bytes = numbered_eights();
-    let record = Record::new(shape, &bytes);
-    let parts = [
-        (record.nonce(), 0, 16),
-        (record.share(0), 2, 208),
-        (record.share(2), 54, 208),
-        (record.joint(0), 80, 16),
-        (record.query(0), 82, 24),
-        (record.joint(1), 85, 16),
-        (record.query(1), 87, 24),
-    ];
-    for (part, first, size) in parts {
-        assert_eq!(rt; (part.first(), part.len()), (Some(&first), size));
-    }
-    assert_eq!(rt; record.bad_word(), None);
-
-    let mut others = numbered_eights();
-    for place in 716..720 {
-        others[place] = 255;
-    }
-    assert_eq!(rt; Record::new(shape, &others).bad_word(), Some(87));
-}
-
-#[test]
-fn words_are_loaded_in_order(rt: HostRuntime) {
-    let mut words = [Fe::ZERO; 2];
-    load(
-        &[5, 0, 0, 0, 0, 0, 0, 0, 0, 0, 0, 0, 255, 255, 255, 255],
-        &mut words,
-    );
-    assert_eq!(rt; (words[0].value(), words[1].value()), (5, MODULUS - 1));
 }

@@ -1,5 +1,5 @@
 use Rattle.std.proofs.Common.{◌≡◌, ◌∙◌, ◌+◌, ◌*◌, ◌<◌, ◌≤◌, ℕ, rules, arith, ap, subst, ⊎_elim}
-use Rattle.flp_report.specs.Reader.{source_of, place_of}
+use Rattle.flp_report.specs.CountReader.{source_of, place_of}
 use Rattle.flp_cli.specs.Engine.{EndsWithin}
 use Rattle.flp_cli.proofs.OutcomeLemmas.{OnErr-always}
 use Rattle.flp_cli.proofs.EngineLemmas.{Judges-more, Stops-none, Stops-before, Stops-within, EndsWithin-after}

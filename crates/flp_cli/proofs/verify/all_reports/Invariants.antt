@@ -1,7 +1,7 @@
 use Rattle.std.proofs.Common.{◌≡◌, ◌+◌, ◌<◌, ◌≤◌}
 use Rattle.flp_report.specs.Shape.{IsCountShape}
 use Rattle.flp_report.specs.Segment.{shape_in, room_of}
-use Rattle.flp_report.specs.Reader.{source_of, SameLoan, reports_given, reports_left}
+use Rattle.flp_report.specs.CountReader.{source_of, SameLoan, reports_given, reports_left}
 use Rattle.flp_cli.specs.Engine.{Judges}
 use Rattle.flp_cli.proofs.verify.all_reports.Given as goal
 

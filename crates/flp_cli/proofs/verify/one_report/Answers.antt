@@ -2,7 +2,7 @@ use Rattle.std.proofs.Common.{◌≡◌, ◌∙◌, ◌*◌, ℕ, List, length, 
 use Rattle.std.specs.Io.KnownBytes.{Consumes}
 use Rattle.flp_report.specs.Shape.{IsCountShape}
 use Rattle.flp_report.specs.Segment.{record_in, shape_in, used_in}
-use Rattle.flp_report.specs.Reader.{source_of}
+use Rattle.flp_report.specs.CountReader.{source_of}
 use Rattle.flp_report.specs.declared.segment.Segment.{Segment}
 use Rattle.flp_report.proofs.SegmentLemmas.{record_in-only, length-held_in}
 use Rattle.flp_cli.proofs.OutcomeLemmas.{OnOk-both, OnErr-map}

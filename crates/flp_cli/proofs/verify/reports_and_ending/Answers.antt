@@ -1,7 +1,7 @@
 use Rattle.std.proofs.Common.{◌≡◌, ◌∙◌, ◌≤◌, arith, ap, inl, inr, ⊎_elim}
 use Rattle.std.proofs.KnownBytes.{Keeps-refl}
-use Rattle.flp_report.specs.declared.fault.ReadFault.TheVariants as read
-use Rattle.flp_report.specs.declared.fault.BatchFault.TheVariants.{Trailing}
+use Rattle.flp_report.specs.declared.count_fault.CountFault.TheVariants as read
+use Rattle.flp_report.specs.declared.count_fault.CountBatchFault.TheVariants.{Trailing}
 use Rattle.flp_cli.specs.declared.fault.Fault.TheVariants.{Read, Batch}
 use Rattle.flp_cli.specs.Fault.{fault_from}
 use Rattle.flp_cli.proofs.OutcomeLemmas.{OnErr-both}

@@ -1,0 +1,90 @@
+-- The first fault of a head, from its parts, and what a file shares with its front.
+use Rattle.std.proofs.Common.{◌≡◌, ℕ, ◌+◌, ◌<◌, ◌≤◌, List, [], ◌∷◌, ◌++◌, length, drop, Option, Some, None, nat_eq, refl, sym, ap, ◌∙◌, arith, length-append, length-drop}
+use Rattle.std.proofs.lemmas.Bool.{lt-ltb, le-ltb}
+use Rattle.std.proofs.lemmas.List.{take-append-le, drop-append-le, drop_at}
+use Rattle.std.specs.Cmp.Lexicographic.{pointwise}
+use Rattle.std.specs.List.{starts_with}
+use Rattle.byteorder.specs.Endian.{little_number}
+use Rattle.byteorder.specs.Numbers.{little_from-append}
+use Rattle.flp_report.specs.declared.fault.BatchFault.{BatchFault}
+use Rattle.flp_report.specs.declared.fault.BatchFault.TheVariants.{Truncated}
+use Rattle.flp_report.specs.Fault.{first_of, ended}
+use Rattle.flp_report.specs.Head.{number_at, numbers_fault, start_fault, head_fault}
+use Rattle.flp_report.specs.Reads.{EndedShort}
+
+-- where the input goes on, it has not ended
+pub ended-none : (before need : ℕ) (rest : List ℕ) → need ≤ before + length rest → ended before need rest ≡ None
+ended-none before need rest long = rw (le-ltb (before + length rest) need long) refl
+
+-- where fewer bytes came, it has
+pub ended-short : (before wanted need : ℕ) (rest : List ℕ) (fault : BatchFault) → before + wanted ≤ need → EndedShort (Some rest) before wanted need fault → ended before need rest ≡ Some fault
+ended-short before wanted need rest fault within short =
+    let less : before + length rest < need = omega (arith, short.less, short.known) in
+    let came : before + length rest ≡ before + short.came = omega (arith, short.known) in
+    rw (lt-ltb (before + length rest) need less) (ap (λ (n : ℕ). Some (Truncated n need)) came ∙ ap (λ (f : BatchFault). Some f) (sym short.is))
+
+-- the first fault of two stays the first of more
+pub first_of-two : (a b : Option BatchFault) (more : List (Option BatchFault)) (fault : BatchFault) → first_of (a ∷ b ∷ []) ≡ Some fault → first_of (a ∷ b ∷ more) ≡ Some fault
+first_of-two None None more fault is = cc
+first_of-two None (Some b) more fault is = is
+first_of-two (Some a) b more fault is = is
+
+-- a file shares the numbers of its head with its front
+pub number_at-append : (place : ℕ) (front rest : List ℕ) → place + 4 ≤ length front → number_at place (front ++ rest) ≡ number_at place front
+number_at-append place front rest long =
+    let behind : place ≤ length front = omega arith in
+    let four : 4 ≤ length (drop place front) = omega (arith, length-drop place front) in
+    ap (little_number 4) (drop-append-le place front rest behind) ∙ little_from-append 4 (drop place front) rest four
+
+-- and the letters
+letters-append : (letters front rest : List ℕ) → length letters ≤ length front → starts_with nat_eq (front ++ rest) letters ≡ starts_with nat_eq front letters
+letters-append letters front rest long = ap (λ (b : List ℕ). pointwise nat_eq letters b) (take-append-le (length letters) front rest long)
+
+-- and so their first fault
+pub numbers_fault-append : (letters : List ℕ) (party : Option ℕ) (front rest : List ℕ) → length letters ≡ 8 → 24 ≤ length front → numbers_fault letters party (front ++ rest) ≡ numbers_fault letters party front
+numbers_fault-append letters party front rest size long =
+    let a : length letters ≤ length front = omega (arith, size) in
+    let b : 8 + 4 ≤ length front = omega arith in
+    let c : 12 + 4 ≤ length front = omega arith in
+    let d : 16 + 4 ≤ length front = omega arith in
+    let e : 20 + 4 ≤ length front = omega arith in
+    rw (
+      letters-append letters front rest a,
+      number_at-append 8 front rest b,
+      number_at-append 12 front rest c,
+      number_at-append 16 front rest d,
+      number_at-append 20 front rest e,
+    )
+    refl
+
+-- a file whose first bytes have a fault among their numbers
+pub start_fault-numbers : (letters : List ℕ) (base : ℕ) (party : Option ℕ) (front rest : List ℕ) (fault : BatchFault) → length letters ≡ 8 → 24 ≤ base → length front ≡ base
+    → numbers_fault letters party front ≡ Some fault → start_fault letters base party (front ++ rest) ≡ Some fault
+start_fault-numbers letters base party front rest fault size long same is =
+    let whole : base ≤ 0 + length (front ++ rest) = omega (arith, length-append front rest, same) in
+    let enough : 24 ≤ length front = omega (arith, same) in
+    rw (ended-none 0 base (front ++ rest) whole, numbers_fault-append letters party front rest size enough, is) refl
+
+-- a file that ends within its text
+pub head_fault-text : (letters : List ℕ) (base : ℕ) (party : Option ℕ) (front rest : List ℕ) (fault : BatchFault) → length letters ≡ 8 → 24 ≤ base → length front ≡ base
+    → numbers_fault letters party front ≡ None → EndedShort (Some rest) base (number_at 20 front) (base + number_at 20 front) fault
+    → head_fault letters base party (front ++ rest) ≡ Some fault
+head_fault-text letters base party front rest fault size long same none short =
+    let whole : base ≤ 0 + length (front ++ rest) = omega (arith, length-append front rest, same) in
+    let enough : 24 ≤ length front = omega (arith, same) in
+    let number : 20 + 4 ≤ length front = omega (arith, same) in
+    let behind : drop base (front ++ rest) ≡ rest = drop_at front rest base same in
+    let within : base + number_at 20 front ≤ base + number_at 20 front = omega arith in
+    rw (ended-none 0 base (front ++ rest) whole, numbers_fault-append letters party front rest size enough, none, number_at-append 20 front rest number, behind, ended-short base (number_at 20 front) (base + number_at 20 front) rest fault within short) refl
+
+-- a file whose head and text are whole and right
+pub head_fault-none : (letters : List ℕ) (base : ℕ) (party : Option ℕ) (front rest : List ℕ) → length letters ≡ 8 → 24 ≤ base → length front ≡ base
+    → numbers_fault letters party front ≡ None → number_at 20 front ≤ length rest
+    → head_fault letters base party (front ++ rest) ≡ None
+head_fault-none letters base party front rest size long same none text =
+    let whole : base ≤ 0 + length (front ++ rest) = omega (arith, length-append front rest, same) in
+    let enough : 24 ≤ length front = omega (arith, same) in
+    let number : 20 + 4 ≤ length front = omega (arith, same) in
+    let behind : drop base (front ++ rest) ≡ rest = drop_at front rest base same in
+    let reaches : base + number_at 20 front ≤ base + length rest = omega (arith, text) in
+    rw (ended-none 0 base (front ++ rest) whole, numbers_fault-append letters party front rest size enough, none, number_at-append 20 front rest number, behind, ended-none base (base + number_at 20 front) rest reaches) refl

@@ -1,0 +1,88 @@
+//! What the answers of a reader's calls, one after the other, say of a whole file.
+ghost use Rattle.std.specs.Prelude.{◌≡◌, ◌+◌, ◌*◌, ◌≤◌, ◌<◌, ◌++◌, ℕ, List, Option, Some, None, length};
+ghost use Rattle.std.specs.List.{All, concat};
+ghost use Rattle.flp_report.specs.declared.fault.BatchFault.{BatchFault};
+ghost use Rattle.flp_report.specs.declared.fault.BatchFault.TheVariants.{Trailing};
+ghost use Rattle.flp_report.specs.declared.header.Header.{Header};
+ghost use Rattle.flp_report.specs.declared.shape.Shape.{Shape};
+ghost use Rattle.flp_report.specs.declared.job_shape.JobHeader.{JobHeader};
+ghost use Rattle.flp_report.specs.declared.job_shape.JobShape.{JobShape};
+ghost use Rattle.flp_report.specs.Shape.{bytes_of};
+ghost use Rattle.flp_report.specs.Job.{job_letters, job_bytes_of, job_large_fault, jobs_fault, word_fault, job_fault_of, IsJobHead};
+ghost use Rattle.flp_report.specs.Head.{head_fault};
+ghost use Rattle.flp_report.specs.Reads.{EndedShort};
+ghost use Rattle.flp_report.specs.Pieces.{pieces, fall_in};
+ghost use Rattle.flp_report.specs.Batch.{batch_letters, large_fault, claims_fault, records_fault, fault_of, claims_of, header_of, whole_records, IsHead, IsFront};
+ghost use Rattle.flp_report.specs.Layout.{head_bytes, IsWritable};
+
+/// The first fault of a file is what the first call that has one answers: `head`, `shape`,
+/// `claims`, and then `segment` or `end`; and a file is a batch where none has one.
+pub fn first_faults()
+    ensures head { (party : Option ℕ) (shape : Shape) (bytes : List ℕ) (b : BatchFault)
+        → head_fault batch_letters 32 party bytes ≡ Some b → fault_of party shape bytes ≡ Some b }
+    ensures shape { (party : Option ℕ) (shape : Shape) (front rest : List ℕ) (header : Header) (b : BatchFault)
+        → IsHead party front header → large_fault shape (length front) header.claims header.reports ≡ Some b
+        → fault_of party shape (front ++ rest) ≡ Some b }
+    ensures claims { (party : Option ℕ) (shape : Shape) (front rest : List ℕ) (header : Header) (b : BatchFault)
+        → IsHead party front header → large_fault shape (length front) header.claims header.reports ≡ None
+        → claims_fault (length front) header.claims rest ≡ Some b
+        → fault_of party shape (front ++ rest) ≡ Some b }
+    ensures records { (party : Option ℕ) (shape : Shape) (front rest : List ℕ) (header : Header)
+        → IsFront party shape front header
+        → fault_of party shape (front ++ rest) ≡ records_fault (length front) (length front + header.reports * bytes_of shape) rest }
+{}
+
+/// The first fault of the records, from the records that were read and what the next call of
+/// `segment`, or `end`, found to be left.
+pub fn record_faults()
+    ensures short { (before wanted whole : ℕ) (read left : List ℕ) (b : BatchFault)
+        → EndedShort (Some left) (before + length read) wanted whole b → before + length read + wanted ≤ whole
+        → records_fault before whole (read ++ left) ≡ Some b }
+    ensures trailing { (before whole : ℕ) (rest : List ℕ) → whole < before + length rest → records_fault before whole rest ≡ Some Trailing }
+    ensures none { (before whole : ℕ) (rest : List ℕ) → before + length rest ≡ whole → records_fault before whole rest ≡ None }
+{}
+
+/// The records that were read stand first among the whole records of a file, and are all of them
+/// where as many were read as the head gives.
+pub fn read_records()
+    ensures first { (party : Option ℕ) (shape : Shape) (front rest : List ℕ) (header : Header) (records : List (List ℕ))
+        → IsFront party shape front header → All (λ r. length r ≡ bytes_of shape) records → length records ≤ header.reports
+        → (more : List (List ℕ)) × (whole_records party shape (front ++ (concat records ++ rest)) ≡ records ++ more) }
+    ensures all { (party : Option ℕ) (shape : Shape) (front rest : List ℕ) (header : Header) (records : List (List ℕ))
+        → IsFront party shape front header → All (λ r. length r ≡ bytes_of shape) records → length records ≡ header.reports
+        → whole_records party shape (front ++ (concat records ++ rest)) ≡ records }
+{}
+
+/// A batch that is written within the limits is read again as the same batch: without a fault, with
+/// its header, its old claims and its records.
+pub fn reads_back()
+    ensures { (party : Option ℕ) (shape : Shape) (header : Header) (claims : List ℕ) (records : List (List ℕ))
+        → IsWritable party header → large_fault shape (32 + length header.text) header.claims header.reports ≡ None
+        → length claims ≡ 16 * header.claims → fall_in (pieces 16 header.claims claims) ≡ None
+        → All (λ r. length r ≡ bytes_of shape) records → length records ≡ header.reports
+        → let bytes = (head_bytes header ++ claims) ++ concat records in
+        (fault_of party shape bytes ≡ None) × (header_of bytes ≡ header)
+        × (claims_of bytes ≡ pieces 16 header.claims claims) × (whole_records party shape bytes ≡ records) }
+{}
+
+/// The first fault of a job file is what the first call that has one answers: `head`, `shape`, and
+/// then `jobs` or `end`; and a file is a job file where none has one.
+pub fn first_job_faults()
+    ensures head { (s : JobShape) (bytes : List ℕ) (b : BatchFault)
+        → head_fault job_letters 28 None bytes ≡ Some b → job_fault_of s bytes ≡ Some b }
+    ensures shape { (s : JobShape) (front rest : List ℕ) (header : JobHeader) (b : BatchFault)
+        → IsJobHead front header → job_large_fault s (length front) header.jobs ≡ Some b → job_fault_of s (front ++ rest) ≡ Some b }
+    ensures jobs { (s : JobShape) (front rest : List ℕ) (header : JobHeader)
+        → IsJobHead front header → job_large_fault s (length front) header.jobs ≡ None
+        → job_fault_of s (front ++ rest) ≡ jobs_fault s (length front) header.jobs rest }
+{}
+
+/// The first fault of the jobs, from what `jobs` or `end` found.
+pub fn job_faults()
+    ensures short { (s : JobShape) (before jobs : ℕ) (rest : List ℕ) (b : BatchFault)
+        → EndedShort (Some rest) before (jobs * job_bytes_of s) (before + jobs * job_bytes_of s) b → jobs_fault s before jobs rest ≡ Some b }
+    ensures trailing { (s : JobShape) (before jobs : ℕ) (rest : List ℕ)
+        → jobs * job_bytes_of s < length rest → jobs_fault s before jobs rest ≡ Some Trailing }
+    ensures words { (s : JobShape) (before jobs : ℕ) (rest : List ℕ)
+        → length rest ≡ jobs * job_bytes_of s → jobs_fault s before jobs rest ≡ word_fault s 0 (pieces (job_bytes_of s) jobs rest) }
+{}
