@@ -17,16 +17,18 @@ pub enum BatchFault {
     Proofs(u32),
     /// The length of the circuit text, which is above 65,536.
     TextLength(u32),
-    /// The number, from 1, of the first old claim that is not above the one before.
+    /// The number of the first old claim that is not above the one before, where the first claim of
+    /// all has the number 0.
     ClaimsOrder(u32),
-    /// The size that is above its limit: of a record, of the old claims or of the whole file.
+    /// The size that is above its limit: of a record or a job, of the old claims, of the whole file,
+    /// or of the batch that would be written of the jobs.
     TooLarge(u64),
     /// The input ended after the first number of bytes, where the second was needed.
     Truncated(u64, u64),
-    /// A byte follows the last record.
+    /// A byte follows the last record or job.
     Trailing,
-    /// In a job file alone: the number of the job and the number of its first word that is not
-    /// below the modulus.
+    /// In a job file alone: the number of the job and the number of its first word that must be
+    /// below the modulus and is not. Both are counted from 0, the words after the nonce.
     Word(u32, u32),
     /// Where a party is asked for alone: the number of shares, which is not above the party.
     Party(u32),

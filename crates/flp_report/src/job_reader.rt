@@ -177,8 +177,9 @@ impl<'a, S: Source> JobReader<'a, S> {
         Ok(jobs)
     }
 
-    /// Sees that the input ends behind the last job, and that all words of the jobs that this reader
-    /// gave are below the modulus. It takes no memory.
+    /// Sees that the input ends behind the last job, when no job is left, and that the words of these
+    /// jobs are below the modulus, those of the input only where the shape has `checked`. It takes no
+    /// memory.
     ///
     /// An error is [`BatchFault::Trailing`] where a byte follows, then [`BatchFault::Word`]; or else
     /// [`ReadFault::Failed`].
