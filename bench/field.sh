@@ -2,14 +2,8 @@
 # Times the arithmetic of words, outside the gate: writes a program over flp_field and flp_poly into a
 # folder of its own, proves it and runs it. Give RT to name another command than rt.
 set -eu
-top="$(cd "$(dirname "$0")/.." && pwd)"
-room="$(mktemp -d)"
-trap 'rm -rf "$room"' EXIT
-mkdir -p "$room/crates/bench_field/src"
-for crate in flp_field flp_poly; do
-    mkdir "$room/crates/$crate"
-    cp -r "$top/crates/$crate/src" "$top/crates/$crate/specs" "$top/crates/$crate/proofs" "$room/crates/$crate/"
-done
+. "$(dirname "$0")/room.sh"
+furnish field flp_field flp_poly
 cat >"$room/crates.txt" <<'LINES'
 flp_field:
 flp_poly: flp_field
@@ -96,5 +90,4 @@ fn evaluations(count: u64) -> Fe {
     word
 }
 PROGRAM
-cd "$room/crates/bench_field"
-"${RT:-rt}" run 2>"$room/log" || { cat "$room/log"; exit 1; }
+measure field

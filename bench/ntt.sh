@@ -2,14 +2,8 @@
 # Times the transforms, outside the gate: writes a program over flp_ntt into a folder of its own, proves it
 # and runs it. Give RT to name another command than rt.
 set -eu
-top="$(cd "$(dirname "$0")/.." && pwd)"
-room="$(mktemp -d)"
-trap 'rm -rf "$room"' EXIT
-mkdir -p "$room/crates/bench_ntt/src"
-for crate in flp_field flp_poly flp_ntt; do
-    mkdir "$room/crates/$crate"
-    cp -r "$top/crates/$crate/src" "$top/crates/$crate/specs" "$top/crates/$crate/proofs" "$room/crates/$crate/"
-done
+. "$(dirname "$0")/room.sh"
+furnish ntt flp_field flp_poly flp_ntt
 cat >"$room/crates.txt" <<'LINES'
 flp_field:
 flp_poly: flp_field
@@ -61,5 +55,4 @@ fn back(values: &mut [Fe], rounds: u64) -> Fe
     values.first().copied().unwrap_or(Fe::ZERO)
 }
 PROGRAM
-cd "$room/crates/bench_ntt"
-"${RT:-rt}" run 2>"$room/log" || { cat "$room/log"; exit 1; }
+measure ntt

@@ -1,0 +1,20 @@
+# Read by the benches: `furnish NAME CRATE...` makes a folder of its own, `room`, with those crates of the
+# project and an empty crate bench_NAME; `measure NAME` proves that crate and runs it.
+top="$(cd "$(dirname "${BASH_SOURCE[0]}")/.." && pwd)"
+room="$(mktemp -d)"
+trap 'rm -rf "$room"' EXIT
+
+furnish() {
+    local name="$1" crate
+    shift
+    mkdir -p "$room/crates/bench_$name/src"
+    for crate in "$@"; do
+        mkdir "$room/crates/$crate"
+        cp -r "$top/crates/$crate/src" "$top/crates/$crate/specs" "$top/crates/$crate/proofs" "$room/crates/$crate/"
+    done
+}
+
+measure() {
+    cd "$room/crates/bench_$1"
+    "${RT:-rt}" run 2>"$room/log" || { cat "$room/log"; exit 1; }
+}
