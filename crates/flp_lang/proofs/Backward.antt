@@ -1,6 +1,6 @@
 -- What completes the plan behind a token that begins a part completes the part from that token on.
 use Rattle.std.proofs.Common.{subst, ℕ, suc, Bool, true, false, cond, codes, List, ◌∷◌, Option, None, Some, ◌≡◌, refl}
-use Rattle.flp_lang.specs.Tree.{Index, Tree, Argument, Statement, Kind, Declaration, Program, Text, index_product, index_sum, product_of, power_of, sum_of, standard, program, one}
+use Rattle.flp_syntax.specs.Tree.{Index, Tree, Argument, Statement, Kind, Declaration, Program, Text, index_product, index_sum, product_of, power_of, sum_of, standard, program, one}
 use Rattle.flp_lang.specs.Grammar.{an_index, plus_index_term, minus_index_term, an_index_term, star_index_factor, an_index_number, an_index_var, an_index_group, an_expr, a_minus_expr, plus_term, minus_term, a_term, star_factor, a_factor, an_exponent, a_number, a_joint, a_meas, a_meas_or_zero, a_sum, a_call, a_var, a_group, some_args, comma_arg, an_arg, an_each_arg, a_check, an_out, an_each, some_stmts, one_more_stmt, a_coef, a_minus_coef, one_more_coef, a_mul, a_poly, a_psum, a_decl, one_more_decl, a_body, a_setting, a_count, a_sum_circuit, a_sumvec, a_histogram, a_multihot, a_standard, a_program}
 use Rattle.std.specs.Str.{bytes_eq}
 use Rattle.flp_lang.specs.Marks.{is_mark}
@@ -8,13 +8,13 @@ use Rattle.flp_lang.specs.Plan as plan
 use Rattle.flp_lang.specs.Plan.{Plan, Part, Value, Stands, IsMark, the_mark, IsNumeral, the_numeral, IsNaming, the_name, IsQuestion, no_question, a_question, IsCalled, not_called, with_args, IsTail, count_tail, sum_tail, sumvec_tail, histogram_tail, multihot_tail, next, skipped, nothing, start}
 use Rattle.flp_lang.proofs.Completes.{Completes, Lives}
 use Rattle.flp_lang.proofs.MarkTests.{bytes_eq-true, is_mark-true}
-use Rattle.flp_lang.specs.declared.syntax.Coef.{Coef}
-use Rattle.flp_lang.specs.declared.syntax.Params.{Params}
-use Rattle.flp_lang.specs.declared.syntax.Params.TheVariants as params
-use Rattle.flp_lang.specs.declared.token.Token.{Token}
-use Rattle.flp_lang.specs.declared.token.Token.TheVariants.{Number, Name, Fixed}
-use Rattle.flp_lang.specs.declared.token.Mark.{Mark}
-use Rattle.flp_lang.specs.declared.token.Mark.TheVariants.{Use, Meas, Joint, Gadget, Check, Out, Each, Sum, Mul, Poly, Psum, Semicolon, Equals, Question, Open, Plus, Minus, Star, Caret, Comma}
+use Rattle.flp_syntax.specs.declared.syntax.Coef.{Coef}
+use Rattle.flp_syntax.specs.declared.syntax.Params.{Params}
+use Rattle.flp_syntax.specs.declared.syntax.Params.TheVariants as params
+use Rattle.flp_syntax.specs.declared.token.Token.{Token}
+use Rattle.flp_syntax.specs.declared.token.Token.TheVariants.{Number, Name, Fixed}
+use Rattle.flp_syntax.specs.declared.token.Mark.{Mark}
+use Rattle.flp_syntax.specs.declared.token.Mark.TheVariants.{Use, Meas, Joint, Gadget, Check, Out, Each, Sum, Mul, Poly, Psum, Semicolon, Equals, Question, Open, Plus, Minus, Star, Caret, Comma}
 
 module _ (c : Text) where
   of_index_prim : (K : Index → Plan) (k : ℕ) (t : Token) (s : List Token) → Lives (plan.start_index_prim k t K) (suc k) s c → Completes (next plan.index_prim K) k (t ∷ s) c

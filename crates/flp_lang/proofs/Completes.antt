@@ -1,8 +1,8 @@
 -- What tokens complete a plan to a text, in the grammar's words.
 use Rattle.std.proofs.Common.{ℕ, List, [], Option, None, Some, ◌≡◌}
-use Rattle.flp_lang.specs.Tree.{Text}
+use Rattle.flp_syntax.specs.Tree.{Text}
 use Rattle.flp_lang.specs.Plan.{Plan, done, next, Part, Value, Stands, nothing}
-use Rattle.flp_lang.specs.declared.token.Token.{Token}
+use Rattle.flp_syntax.specs.declared.token.Token.{Token}
 
 abbrev pub Completes : Plan → ℕ → List Token → Text → Type 0
 Completes (done text) k s c = (s ≡ []) × (text ≡ c)

@@ -1,6 +1,6 @@
 -- The value of digits, read from the left.
 use Rattle.std.proofs.Common.{ℕ, ◌+◌, ◌-◌, ◌*◌, ◌≤◌, ◌<◌, List, [], ◌∷◌, length, drop, get_or, ◌≡◌, refl, add-one, drop-cons, arith}
-use Rattle.flp_lang.specs.Tokens.{digits_from, digits_value}
+use Rattle.flp_syntax.specs.Tokens.{digits_from, digits_value}
 
 -- further digits never lower it
 pub digits_from-grows : (digits : List ℕ) (value : ℕ) → value ≤ digits_from value digits

@@ -2,16 +2,16 @@
 use Rattle.std.proofs.Common.{ℕ, Bool, true, false, cond, codes, List, [], ◌∷◌, Option, None, Some, ◌≡◌, refl, ap}
 use Rattle.flp_lang.specs.Marks.{is_mark}
 use Rattle.std.specs.Str.{bytes_eq}
-use Rattle.flp_lang.specs.Tree.{joint, sum, check, out, each, each_arg, arguments, statements, poly_kind, Index, Tree, Argument, Statement, Kind, Declaration, Program, Text, index_product, index_sum, product_of, power_of, sum_of, program, one}
+use Rattle.flp_syntax.specs.Tree.{joint, sum, check, out, each, each_arg, arguments, statements, poly_kind, Index, Tree, Argument, Statement, Kind, Declaration, Program, Text, index_product, index_sum, product_of, power_of, sum_of, program, one}
 use Rattle.flp_lang.specs.Plan as plan
 use Rattle.flp_lang.specs.Plan.{Plan, done, next, fixed, range, Part, Value, start, nothing, skipped, or_else, after_token, a_mark}
 use Rattle.flp_lang.proofs.MarkTests.{is_mark-true}
-use Rattle.flp_lang.specs.declared.syntax.Coef.{Coef}
-use Rattle.flp_lang.specs.declared.syntax.Params.{Params}
-use Rattle.flp_lang.specs.declared.token.Token.{Token}
-use Rattle.flp_lang.specs.declared.token.Token.TheVariants.{Number, Name, Fixed}
-use Rattle.flp_lang.specs.declared.token.Mark.{Mark}
-use Rattle.flp_lang.specs.declared.token.Mark.TheVariants.{Use, Meas, Joint, Gadget, Check, Out, Each, Sum, Mul, Poly, Psum, Semicolon, Equals, OpenBracket, CloseBracket, Question, Open, Close, Plus, Minus, Star, Caret, Comma, DotDot}
+use Rattle.flp_syntax.specs.declared.syntax.Coef.{Coef}
+use Rattle.flp_syntax.specs.declared.syntax.Params.{Params}
+use Rattle.flp_syntax.specs.declared.token.Token.{Token}
+use Rattle.flp_syntax.specs.declared.token.Token.TheVariants.{Number, Name, Fixed}
+use Rattle.flp_syntax.specs.declared.token.Mark.{Mark}
+use Rattle.flp_syntax.specs.declared.token.Mark.TheVariants.{Use, Meas, Joint, Gadget, Check, Out, Each, Sum, Mul, Poly, Psum, Semicolon, Equals, OpenBracket, CloseBracket, Question, Open, Close, Plus, Minus, Star, Caret, Comma, DotDot}
 
 -- the tokens by which a part that stands can go on
 abbrev pub no_tail : Token → Bool

@@ -1,17 +1,17 @@
 -- A token of a derivation begins its part, or the part is empty: what completes a plan from a token on completes the plan behind that token.
 use Rattle.std.proofs.Common.{ℕ, suc, Bool, false, List, [], ◌∷◌, Option, None, ◌⊎◌, inl, inr}
-use Rattle.flp_lang.specs.Tree.{Index, Tree, Argument, Statement, Kind, Declaration, Program, Text, index_sum, product_of, sum_of, program, one}
+use Rattle.flp_syntax.specs.Tree.{Index, Tree, Argument, Statement, Kind, Declaration, Program, Text, index_sum, product_of, sum_of, program, one}
 use Rattle.flp_lang.specs.Grammar.{IsIndex, an_index, MoreIndexTerms, no_index_term, plus_index_term, minus_index_term, IsIndexTerm, an_index_term, MoreIndexFactors, no_index_factor, star_index_factor, IsIndexPrim, an_index_number, an_index_var, an_index_group, IsExpr, an_expr, a_minus_expr, MoreTerms, no_term, plus_term, minus_term, IsTerm, a_term, MoreFactors, no_factor, star_factor, IsFactor, a_factor, IsExponent, no_exponent, an_exponent, IsPrim, a_number, a_joint, a_meas, a_meas_or_zero, a_sum, a_call, a_var, a_group, IsArgs, some_args, MoreArgs, no_arg, comma_arg, IsArg, an_arg, an_each_arg, IsStmt, a_check, an_out, an_each, IsStmts, some_stmts, MoreStmts, no_stmt, one_more_stmt, IsCoef, a_coef, a_minus_coef, MoreCoefs, no_coef, one_more_coef, IsKind, a_mul, a_poly, a_psum, IsDecl, a_decl, MoreDecls, no_decl, one_more_decl, IsBody, a_body, IsSetting, a_setting, a_count, a_sum_circuit, a_sumvec, a_histogram, a_multihot, IsCircuit, a_standard, a_program}
 use Rattle.flp_lang.specs.Plan as plan
 use Rattle.flp_lang.specs.Plan.{Plan, Part, Value, Stands, IsMark, the_mark, IsNumeral, the_numeral, IsNaming, the_name, IsQuestion, no_question, a_question, IsCalled, not_called, with_args, IsTail, count_tail, sum_tail, sumvec_tail, histogram_tail, multihot_tail, next, skipped, nothing, start}
 use Rattle.flp_lang.proofs.Completes.{Completes, Lives, Passes}
 use Rattle.flp_lang.proofs.MarkTests.{bytes_eq-self, same_mark-self}
-use Rattle.flp_lang.specs.declared.syntax.Coef.{Coef}
-use Rattle.flp_lang.specs.declared.syntax.Params.{Params}
-use Rattle.flp_lang.specs.declared.token.Token.{Token}
-use Rattle.flp_lang.specs.declared.token.Token.TheVariants.{Fixed}
-use Rattle.flp_lang.specs.declared.token.Mark.{Mark}
-use Rattle.flp_lang.specs.declared.token.Mark.TheVariants.{Use, Each, Minus}
+use Rattle.flp_syntax.specs.declared.syntax.Coef.{Coef}
+use Rattle.flp_syntax.specs.declared.syntax.Params.{Params}
+use Rattle.flp_syntax.specs.declared.token.Token.{Token}
+use Rattle.flp_syntax.specs.declared.token.Token.TheVariants.{Fixed}
+use Rattle.flp_syntax.specs.declared.token.Mark.{Mark}
+use Rattle.flp_syntax.specs.declared.token.Mark.TheVariants.{Use, Each, Minus}
 
 module _ (c : Text) where
   at_index_prim : {k k' : ℕ} {t : Token} {s s' : List Token} {v : Index} (K : Index → Plan) → IsIndexPrim k (t ∷ s) k' s' v → Completes (K v) k' s' c → Lives (plan.start_index_prim k t K) (suc k) s c

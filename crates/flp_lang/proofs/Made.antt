@@ -1,15 +1,15 @@
 -- What the makers of sums and products make.
 use Rattle.std.proofs.Common.{ℕ, ◌<◌, Bool, true, false, List, [], ◌∷◌, length, map, ◌≡◌, refl, ◌∙◌, arith, ◌==◌}
 use Rattle.std.proofs.lemmas.Bool.Decides.{nat_tests}
-use Rattle.flp_lang.specs.declared.syntax.Expr.{Expr}
-use Rattle.flp_lang.specs.declared.syntax.Expr.TheVariants as expr
-use Rattle.flp_lang.specs.declared.syntax.Item.{Item, roll-Item}
-use Rattle.flp_lang.specs.View.{tree_of, item_of, tree_of_Add, tree_of_Mul, item_of_roll}
-use Rattle.flp_lang.specs.Tree.{tree_at, sum_of, product_of, index_sum, index_product, index_at}
-use Rattle.flp_lang.specs.View.{index_of, index_item_of, index_of_Add, index_of_Mul, index_item_of_roll}
-use Rattle.flp_lang.specs.declared.syntax.Idx.{Idx}
-use Rattle.flp_lang.specs.declared.syntax.Idx.TheVariants as idx
-use Rattle.flp_lang.specs.declared.syntax.IdxItem.{IdxItem, roll-IdxItem}
+use Rattle.flp_syntax.specs.declared.syntax.Expr.{Expr}
+use Rattle.flp_syntax.specs.declared.syntax.Expr.TheVariants as expr
+use Rattle.flp_syntax.specs.declared.syntax.Item.{Item, roll-Item}
+use Rattle.flp_syntax.specs.View.{tree_of, item_of, tree_of_Add, tree_of_Mul, item_of_roll}
+use Rattle.flp_syntax.specs.Tree.{tree_at, sum_of, product_of, index_sum, index_product, index_at}
+use Rattle.flp_syntax.specs.View.{index_of, index_item_of, index_of_Add, index_of_Mul, index_item_of_roll}
+use Rattle.flp_syntax.specs.declared.syntax.Idx.{Idx}
+use Rattle.flp_syntax.specs.declared.syntax.Idx.TheVariants as idx
+use Rattle.flp_syntax.specs.declared.syntax.IdxItem.{IdxItem, roll-IdxItem}
 
 -- a length that is not 0
 pub nonzero : (n m : ℕ) → n ≡ m → (n == 0) ≡ false → 0 < m

@@ -4,10 +4,10 @@ use Rattle.std.proofs.lemmas.Bool.{eqb-true, eq-eqb}
 use Rattle.std.proofs.lemmas.Slice.Eq.{bytes_eq-Decides}
 use Rattle.std.specs.Str.{bytes_eq}
 use Rattle.flp_lang.specs.Marks.{mark_number, same_mark, is_mark}
-use Rattle.flp_lang.specs.declared.token.Token.{Token}
-use Rattle.flp_lang.specs.declared.token.Token.TheVariants.{Number, Name, Fixed}
-use Rattle.flp_lang.specs.declared.token.Mark.{Mark}
-use Rattle.flp_lang.specs.declared.token.Mark.TheVariants.{Use, Meas, Joint, Gadget, Check, Out, Each, Sum, In, Mul, Poly, Psum, Semicolon, Equals, OpenBracket, CloseBracket, Question, Open, Close, Plus, Minus, Star, Caret, Comma, DotDot}
+use Rattle.flp_syntax.specs.declared.token.Token.{Token}
+use Rattle.flp_syntax.specs.declared.token.Token.TheVariants.{Number, Name, Fixed}
+use Rattle.flp_syntax.specs.declared.token.Mark.{Mark}
+use Rattle.flp_syntax.specs.declared.token.Mark.TheVariants.{Use, Meas, Joint, Gadget, Check, Out, Each, Sum, In, Mul, Poly, Psum, Semicolon, Equals, OpenBracket, CloseBracket, Question, Open, Close, Plus, Minus, Star, Caret, Comma, DotDot}
 
 pub same_mark-self : (m : Mark) → same_mark m m ≡ true
 same_mark-self m = eq-eqb (mark_number m) (mark_number m) refl

@@ -6,21 +6,21 @@ use Rattle.flp_lang.specs.Plan as plan
 use Rattle.flp_lang.specs.Plan.{Plan, done, next, fixed, after_token, at_end}
 use Rattle.flp_lang.specs.Run.{run, go_on, too_deep, IsFault, IsNotNext, IsNoNumber, IsNoName, IsNoSign, Eats, sign_mark, Runs, is_next, start_of, joint_plan, meas_plan, sum_plan, named_plan, starts_stmt, starts_coef, check_plan, out_plan, each_plan, psums, which_of, which_starts, Skips, is_word, count_plan, sum_circuit_plan, sumvec_plan, histogram_plan, multihot_plan}
 use Rattle.std.specs.Str.{bytes_eq}
-use Rattle.flp_lang.specs.Tree.{Text, standard, program, Program, Statement, statements, Kind, mul_kind, poly_kind, psum_kind, Declaration}
-use Rattle.flp_lang.specs.declared.syntax.Coef.{Coef}
-use Rattle.flp_lang.specs.declared.syntax.Params.{Params}
+use Rattle.flp_syntax.specs.Tree.{Text, standard, program, Program, Statement, statements, Kind, mul_kind, poly_kind, psum_kind, Declaration}
+use Rattle.flp_syntax.specs.declared.syntax.Coef.{Coef}
+use Rattle.flp_syntax.specs.declared.syntax.Params.{Params}
 use Rattle.flp_lang.specs.declared.standard.Which.{Which}
 use Rattle.flp_lang.specs.declared.standard.Which.TheVariants as whiches
-use Rattle.flp_lang.specs.Tree.{Tree, number, Argument, one, each_arg, arguments, sum_of, product_of, power_of}
+use Rattle.flp_syntax.specs.Tree.{Tree, number, Argument, one, each_arg, arguments, sum_of, product_of, power_of}
 use Rattle.flp_lang.specs.declared.parser.Start.TheVariants as Starts
-use Rattle.flp_lang.specs.Tree.{Index, index_number, index_var, index_sum, index_product}
-use Rattle.flp_lang.specs.declared.fault.LangFault.{LangFault}
+use Rattle.flp_syntax.specs.Tree.{Index, index_number, index_var, index_sum, index_product}
+use Rattle.flp_syntax.specs.declared.fault.LangFault.{LangFault}
 use Rattle.flp_lang.specs.Verdict.{Verdict, good, bad, deep, moved}
 use Rattle.flp_lang.proofs.MarkTests.{same_mark-self, bytes_eq-self, bytes_eq-true}
-use Rattle.flp_lang.specs.declared.token.Token.{Token}
-use Rattle.flp_lang.specs.declared.token.Token.TheVariants.{Number, Name, Fixed}
-use Rattle.flp_lang.specs.declared.token.Mark.{Mark}
-use Rattle.flp_lang.specs.declared.token.Mark.TheVariants.{Use, Meas, Joint, Gadget, Check, Out, Each, Sum, Mul, Poly, Psum, Semicolon, Equals, OpenBracket, Question, Open, Close, Plus, Minus, Star, Caret, Comma}
+use Rattle.flp_syntax.specs.declared.token.Token.{Token}
+use Rattle.flp_syntax.specs.declared.token.Token.TheVariants.{Number, Name, Fixed}
+use Rattle.flp_syntax.specs.declared.token.Mark.{Mark}
+use Rattle.flp_syntax.specs.declared.token.Mark.TheVariants.{Use, Meas, Joint, Gadget, Check, Out, Each, Sum, Mul, Poly, Psum, Semicolon, Equals, OpenBracket, Question, Open, Close, Plus, Minus, Star, Caret, Comma}
 
 -- a mark is there, or it is missing
 pub mark_there : (l : ℕ × ℕ) (k k' : ℕ) (m : Mark) (P : Plan) (s s' : List Token) → s ≡ Fixed m ∷ s' → k' ≡ suc k → too_deep (Fixed m) l ≡ false → run l k (fixed m P) s ≡ run (moved (Fixed m) l) k' P s'

@@ -1,12 +1,12 @@
 -- No list of tokens has two verdicts, no bytes have two readings, and so no text has two answers.
 use Rattle.std.proofs.Common.{ℕ, suc, ◌≤◌, ◌<◌, List, [], ◌∷◌, ◌++◌, length, Option, None, Some, ◌≡◌, refl, sym, subst, ap, ◌∙◌, ◌⊎◌, inl, inr, append_assoc, length-append, arith, drop}
 use Rattle.flp_lang.specs.Grammar.{IsText}
-use Rattle.flp_lang.specs.Tree.{Text}
+use Rattle.flp_syntax.specs.Tree.{Text}
 use Rattle.flp_lang.specs.Verdict.{Verdict, good, bad, deep, Viable, Stops, level_of, IsShallow, Judged}
-use Rattle.flp_lang.specs.Tokens.{Reads, nothing_read, piece_read, piece_of, IsStuck, AreTokens}
+use Rattle.flp_syntax.specs.Tokens.{Reads, nothing_read, piece_read, piece_of, IsStuck, AreTokens}
 use Rattle.flp_lang.specs.Parsed.{HasVerdict}
 use Rattle.flp_lang.proofs.Verdicts.{one_text}
-use Rattle.flp_lang.specs.declared.token.Token.{Token}
+use Rattle.flp_syntax.specs.declared.token.Token.{Token}
 
 nil-right : {A : Type 0} (xs : List A) → xs ++ [] ≡ xs
 nil-right [] = refl

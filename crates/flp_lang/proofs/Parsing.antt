@@ -4,17 +4,17 @@ use Rattle.std.proofs.lemmas.Bool.{eqb-true}
 use Rattle.flp_lang.specs.Plan as plan
 use Rattle.flp_lang.specs.Plan.{next, done}
 use Rattle.flp_lang.specs.Run.{run, verdict, IsFault}
-use Rattle.flp_lang.specs.Tokens.{IsLexed}
-use Rattle.flp_lang.specs.Tree.{Text}
+use Rattle.flp_syntax.specs.Tokens.{IsLexed}
+use Rattle.flp_syntax.specs.Tree.{Text}
 use Rattle.flp_lang.specs.Verdict.{good, bad, Judged}
-use Rattle.flp_lang.specs.View.{text_of}
+use Rattle.flp_syntax.specs.View.{text_of}
 use Rattle.flp_lang.specs.Parsed.{IsParsed, IsParseFault}
 use Rattle.flp_lang.proofs.Verdicts.{judged}
 use Rattle.flp_lang.proofs.Moves.{text_ends, text_goes_on}
-use Rattle.flp_lang.specs.declared.fault.LangFault.{LangFault}
-use Rattle.flp_lang.specs.declared.fault.LangFault.TheVariants.{Memory, Syntax, Depth}
-use Rattle.flp_lang.specs.declared.syntax.Circuit.{Circuit}
-use Rattle.flp_lang.specs.declared.token.Token.{Token}
+use Rattle.flp_syntax.specs.declared.fault.LangFault.{LangFault}
+use Rattle.flp_syntax.specs.declared.fault.LangFault.TheVariants.{Memory, Syntax, Depth}
+use Rattle.flp_syntax.specs.declared.syntax.Circuit.{Circuit}
+use Rattle.flp_syntax.specs.declared.token.Token.{Token}
 
 none-left : (s : List Token) → (length s == 0) ≡ true → s ≡ []
 none-left [] h = refl

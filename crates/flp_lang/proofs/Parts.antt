@@ -1,17 +1,17 @@
 -- Parts of no token, parts at the end of the tokens, and tokens that fill a part.
 use Rattle.std.proofs.Common.{ℕ, suc, Bool, false, codes, List, [], ◌∷◌, Option, None, Some}
-use Rattle.flp_lang.specs.Tree.{Index, Tree, Argument, Statement, Declaration, Program, Text, standard, one}
-use Rattle.flp_lang.specs.Tree.{number, index_number, statements, check, mul_kind}
+use Rattle.flp_syntax.specs.Tree.{Index, Tree, Argument, Statement, Declaration, Program, Text, standard, one}
+use Rattle.flp_syntax.specs.Tree.{number, index_number, statements, check, mul_kind}
 use Rattle.flp_lang.specs.Grammar.{IsIndex, an_index, MoreIndexTerms, no_index_term, IsIndexTerm, an_index_term, MoreIndexFactors, no_index_factor, IsIndexPrim, an_index_number, IsExpr, an_expr, MoreTerms, no_term, IsTerm, a_term, MoreFactors, no_factor, IsFactor, a_factor, IsExponent, no_exponent, IsPrim, a_number, IsArgs, some_args, MoreArgs, no_arg, IsArg, an_arg, IsStmt, a_check, IsStmts, some_stmts, MoreStmts, no_stmt, one_more_stmt, IsCoef, a_coef, MoreCoefs, no_coef, one_more_coef, a_mul, IsDecl, a_decl, MoreDecls, no_decl, one_more_decl, IsBody, a_body, a_setting, IsStandard, a_count, IsCircuit, a_standard, a_program}
 use Rattle.flp_lang.specs.Plan as plan
 use Rattle.flp_lang.specs.Plan.{Plan, Part, Value, Stands, IsMark, the_mark, IsNumeral, the_numeral, IsNaming, the_name, IsQuestion, no_question, a_question, IsCalled, not_called, with_args, IsTail, count_tail, sum_tail, sumvec_tail, histogram_tail, multihot_tail, next, skipped, nothing, start}
 use Rattle.flp_lang.proofs.Completes.{Completes, Passed}
-use Rattle.flp_lang.specs.declared.syntax.Coef.{Coef}
-use Rattle.flp_lang.specs.declared.syntax.Params.{Params}
-use Rattle.flp_lang.specs.declared.syntax.Params.TheVariants as params
-use Rattle.flp_lang.specs.declared.token.Token.{Token}
-use Rattle.flp_lang.specs.declared.token.Token.TheVariants.{Number, Name, Fixed}
-use Rattle.flp_lang.specs.declared.token.Mark.TheVariants.{Use, Meas, Joint, Gadget, Check, Mul, Semicolon, Equals}
+use Rattle.flp_syntax.specs.declared.syntax.Coef.{Coef}
+use Rattle.flp_syntax.specs.declared.syntax.Params.{Params}
+use Rattle.flp_syntax.specs.declared.syntax.Params.TheVariants as params
+use Rattle.flp_syntax.specs.declared.token.Token.{Token}
+use Rattle.flp_syntax.specs.declared.token.Token.TheVariants.{Number, Name, Fixed}
+use Rattle.flp_syntax.specs.declared.token.Mark.TheVariants.{Use, Meas, Joint, Gadget, Check, Mul, Semicolon, Equals}
 
 abbrev pub WhereNothing : {V : Type 0} → Option V → (V → Type 0) → Type 0
 WhereNothing None P = Unit {0}

@@ -8,11 +8,11 @@ use Rattle.std.specs.List.{prefix_len}
 use Rattle.std.specs.Str.{bytes_eq}
 use Rattle.flp_field.specs.Word.{modulus}
 use Rattle.flp_lang.proofs.MarkTests.{bytes_eq-true}
-use Rattle.flp_lang.specs.Tokens.{Reads, nothing_read, piece_read, piece_of, is_blank, is_letter, is_digit, is_name_byte, is_comment_byte, digits_value, symbol, number_piece, symbol_piece}
-use Rattle.flp_lang.specs.declared.token.Mark.{Mark}
-use Rattle.flp_lang.specs.declared.token.Mark.TheVariants.{DotDot}
-use Rattle.flp_lang.specs.declared.token.Token.TheVariants.{Number, Fixed}
-use Rattle.flp_lang.specs.declared.token.Token.{Token}
+use Rattle.flp_syntax.specs.Tokens.{Reads, nothing_read, piece_read, piece_of, is_blank, is_letter, is_digit, is_name_byte, is_comment_byte, digits_value, symbol, number_piece, symbol_piece}
+use Rattle.flp_syntax.specs.declared.token.Mark.{Mark}
+use Rattle.flp_syntax.specs.declared.token.Mark.TheVariants.{DotDot}
+use Rattle.flp_syntax.specs.declared.token.Token.TheVariants.{Number, Fixed}
+use Rattle.flp_syntax.specs.declared.token.Token.{Token}
 
 append-nil : {A : Type 0} (xs : List A) → xs ++ [] ≡ xs
 append-nil [] = refl

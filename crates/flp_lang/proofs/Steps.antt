@@ -1,13 +1,13 @@
 -- One token, and the end of the tokens: a plan is completed from there on exactly where the plan behind is.
 use Rattle.std.proofs.Common.{ℕ, suc, Bool, true, false, List, [], ◌∷◌, Option, None, Some, ◌≡◌, refl, subst, ap, ◌⊎◌, inl, inr}
-use Rattle.flp_lang.specs.Tree.{Text}
+use Rattle.flp_syntax.specs.Tree.{Text}
 use Rattle.flp_lang.specs.Plan.{Plan, done, next, Part, Value, Stands, start, nothing, skipped, or_else, after_token, at_end}
 use Rattle.flp_lang.proofs.Completes.{Completes, Lives, Passed}
 use Rattle.flp_lang.proofs.Forward.{at_start}
 use Rattle.flp_lang.proofs.Backward.{of_start}
 use Rattle.flp_lang.proofs.Parts.{WhereNothing, nothing_stands, at_last, fill}
 use Rattle.flp_lang.proofs.Follow.{Follows, Avoids, tail_of, quiet}
-use Rattle.flp_lang.specs.declared.token.Token.{Token}
+use Rattle.flp_syntax.specs.declared.token.Token.{Token}
 
 else_lives : (this other : Option Plan) (k : ℕ) (s : List Token) (c : Text) → Lives this k s c → Lives (or_else this other) k s c
 else_lives (Some P) other k s c L = L

@@ -2,7 +2,7 @@
 use Rattle.std.proofs.Common.{ℕ, suc, ◌+◌, ◌-◌, ◌≤◌, Bool, true, false, List, [], ◌∷◌, ◌++◌, length, Option, None, Some, ◌≡◌, refl, sym, subst, ap, arith}
 use Rattle.std.proofs.lemmas.Bool.Decides.{nat_tests}
 use Rattle.std.specs.Prelude.{nat_lt}
-use Rattle.flp_lang.specs.Tree.{Text}
+use Rattle.flp_syntax.specs.Tree.{Text}
 use Rattle.flp_lang.specs.Grammar.{IsText}
 use Rattle.flp_lang.specs.Plan as plan
 use Rattle.flp_lang.specs.Plan.{Plan, done, next, after_token, at_end}
@@ -11,9 +11,9 @@ use Rattle.flp_lang.specs.Verdict.{Verdict, good, bad, deep, Stops, moved, level
 use Rattle.flp_lang.proofs.Completes.{Completes, Lives}
 use Rattle.flp_lang.proofs.Follow.{Follows, FollowsOption, follows_after, follows_whole}
 use Rattle.flp_lang.proofs.Steps.{forward, backward, ends, ends_back, goes}
-use Rattle.flp_lang.specs.declared.token.Token.{Token}
-use Rattle.flp_lang.specs.declared.token.Token.TheVariants.{Fixed}
-use Rattle.flp_lang.specs.declared.token.Mark.TheVariants.{Psum, Semicolon, OpenBracket, CloseBracket, Open, Close}
+use Rattle.flp_syntax.specs.declared.token.Token.{Token}
+use Rattle.flp_syntax.specs.declared.token.Token.TheVariants.{Fixed}
+use Rattle.flp_syntax.specs.declared.token.Mark.TheVariants.{Psum, Semicolon, OpenBracket, CloseBracket, Open, Close}
 
 abbrev total : ℕ × ℕ → ℕ
 total l = l.0 + l.1

@@ -1,24 +1,24 @@
 -- What the parser makes of a text is well formed.
 use Rattle.std.proofs.Common.{ℕ, suc, ◌+◌, ◌≤◌, ◌<◌, ◌≡◌, Bool, true, false, List, [], ◌∷◌, length, Option, None, Some, refl, sym, subst, arith, take, option_to_list, cond, ◌++◌}
 use Rattle.flp_lang.specs.Grammar.{IsIndex, an_index, MoreIndexTerms, no_index_term, plus_index_term, minus_index_term, IsIndexTerm, an_index_term, MoreIndexFactors, no_index_factor, star_index_factor, IsIndexPrim, an_index_number, an_index_var, an_index_group, IsExpr, an_expr, a_minus_expr, MoreTerms, no_term, plus_term, minus_term, IsTerm, a_term, MoreFactors, no_factor, star_factor, IsFactor, a_factor, IsExponent, no_exponent, an_exponent, IsPrim, a_number, a_joint, a_meas, a_meas_or_zero, a_sum, a_call, a_var, a_group, IsArgs, some_args, MoreArgs, no_arg, comma_arg, IsArg, an_arg, an_each_arg, IsStmt, a_check, an_out, an_each, IsStmts, some_stmts, MoreStmts, no_stmt, one_more_stmt, IsCoef, a_coef, a_minus_coef, MoreCoefs, no_coef, one_more_coef, IsKind, a_mul, a_poly, a_psum, IsDecl, a_decl, MoreDecls, no_decl, one_more_decl, IsBody, a_body, IsCircuit, a_standard, a_program}
-use Rattle.flp_lang.specs.Tree.{Index, index_number, index_var, index_add, index_mul, index_items, indices, index_sum, index_product, index_at, Tree, number, var, joint, meas, meas_or_zero, sum, call, add, mul, pow, items, trees, tree_at, sum_of, product_of, power_of, Argument, arguments, Statement, statements, Kind, Declaration, Program, Text}
+use Rattle.flp_syntax.specs.Tree.{Index, index_number, index_var, index_add, index_mul, index_items, indices, index_sum, index_product, index_at, Tree, number, var, joint, meas, meas_or_zero, sum, call, add, mul, pow, items, trees, tree_at, sum_of, product_of, power_of, Argument, arguments, Statement, statements, Kind, Declaration, Program, Text}
 use Rattle.std.proofs.Common.{◌==◌, nat_lt, codes, Result, Ok, Err, IfOk}
 use Rattle.std.specs.List.{prefix_len}
 use Rattle.std.specs.Str.{bytes_eq}
 use Rattle.flp_field.specs.Word.{modulus}
-use Rattle.flp_lang.specs.Tokens.{Reads, nothing_read, piece_read, piece_of, IsLexed, is_blank, is_letter, is_digit, is_name_byte, digits_value, reserved, symbol, word_token, number_piece, symbol_piece}
+use Rattle.flp_syntax.specs.Tokens.{Reads, nothing_read, piece_read, piece_of, IsLexed, is_blank, is_letter, is_digit, is_name_byte, digits_value, reserved, symbol, word_token, number_piece, symbol_piece}
 use Rattle.flp_lang.specs.Verdict.{good, Judged}
 use Rattle.flp_lang.specs.Run.{verdict}
-use Rattle.flp_lang.specs.View.{text_of}
+use Rattle.flp_syntax.specs.View.{text_of}
 use Rattle.flp_lang.proofs.Verdicts.{judged}
 use Rattle.flp_lang.proofs.Readings.{name-begins}
-use Rattle.flp_lang.specs.declared.fault.LangFault.{LangFault}
-use Rattle.flp_lang.specs.declared.syntax.Circuit.{Circuit}
-use Rattle.flp_lang.specs.declared.token.Mark.{Mark}
-use Rattle.flp_lang.specs.WellFormed.{IsUnreserved, are_name_bytes, IsName, IsPlace, IndexIsWell, IndexItemsAreWell, IndicesAreWell, TreeIsWell, ItemsAreWell, TreesAreWell, ArgumentIsWell, ArgumentsAreWell, HasArg, StatementIsWell, StatementsAreWell, HasStmt, KindIsWell, DeclarationsAreWell, ProgramIsWell, IsWellFormed}
-use Rattle.flp_lang.specs.declared.syntax.Coef.{Coef}
-use Rattle.flp_lang.specs.declared.token.Token.{Token}
-use Rattle.flp_lang.specs.declared.token.Token.TheVariants.{Number, Name, Fixed}
+use Rattle.flp_syntax.specs.declared.fault.LangFault.{LangFault}
+use Rattle.flp_syntax.specs.declared.syntax.Circuit.{Circuit}
+use Rattle.flp_syntax.specs.declared.token.Mark.{Mark}
+use Rattle.flp_syntax.specs.WellFormed.{IsUnreserved, are_name_bytes, IsName, IsPlace, IndexIsWell, IndexItemsAreWell, IndicesAreWell, TreeIsWell, ItemsAreWell, TreesAreWell, ArgumentIsWell, ArgumentsAreWell, HasArg, StatementIsWell, StatementsAreWell, HasStmt, KindIsWell, DeclarationsAreWell, ProgramIsWell, IsWellFormed}
+use Rattle.flp_syntax.specs.declared.syntax.Coef.{Coef}
+use Rattle.flp_syntax.specs.declared.token.Token.{Token}
+use Rattle.flp_syntax.specs.declared.token.Token.TheVariants.{Number, Name, Fixed}
 
 -- tokens whose names are names
 abbrev pub AreReal : List Token → Type 0

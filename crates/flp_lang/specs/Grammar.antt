@@ -1,13 +1,13 @@
 -- The grammar of circuit text, rule by rule, from its parts up. `IsX k s k' s' v` says: from token number k on, where the tokens are s, there
 -- stands an X with tree v, up to token number k', where the tokens are s'.
 use Rattle.std.specs.Prelude.{ℕ, suc, Bool, true, false, List, [], ◌∷◌, Option, None, Some, codes}
-use Rattle.flp_lang.specs.Tree.{Index, index_number, index_var, index_sum, index_product, Tree, number, var, joint, meas, meas_or_zero, sum, call, sum_of, product_of, power_of, Argument, one, each_arg, arguments, Statement, check, out, each, statements, Kind, mul_kind, poly_kind, psum_kind, Declaration, Program, Text, standard, program}
-use Rattle.flp_lang.specs.declared.syntax.Coef.{Coef}
-use Rattle.flp_lang.specs.declared.syntax.Params.{Params}
-use Rattle.flp_lang.specs.declared.syntax.Params.TheVariants as params
-use Rattle.flp_lang.specs.declared.token.Token.{Token}
-use Rattle.flp_lang.specs.declared.token.Token.TheVariants.{Number, Name, Fixed}
-use Rattle.flp_lang.specs.declared.token.Mark.TheVariants.{Use, Meas, Joint, Gadget, Check, Out, Each, Sum, In, Mul, Poly, Psum, Semicolon, Equals, OpenBracket, CloseBracket, Question, Open, Close, Plus, Minus, Star, Caret, Comma, DotDot}
+use Rattle.flp_syntax.specs.Tree.{Index, index_number, index_var, index_sum, index_product, Tree, number, var, joint, meas, meas_or_zero, sum, call, sum_of, product_of, power_of, Argument, one, each_arg, arguments, Statement, check, out, each, statements, Kind, mul_kind, poly_kind, psum_kind, Declaration, Program, Text, standard, program}
+use Rattle.flp_syntax.specs.declared.syntax.Coef.{Coef}
+use Rattle.flp_syntax.specs.declared.syntax.Params.{Params}
+use Rattle.flp_syntax.specs.declared.syntax.Params.TheVariants as params
+use Rattle.flp_syntax.specs.declared.token.Token.{Token}
+use Rattle.flp_syntax.specs.declared.token.Token.TheVariants.{Number, Name, Fixed}
+use Rattle.flp_syntax.specs.declared.token.Mark.TheVariants.{Use, Meas, Joint, Gadget, Check, Out, Each, Sum, In, Mul, Poly, Psum, Semicolon, Equals, OpenBracket, CloseBracket, Question, Open, Close, Plus, Minus, Star, Caret, Comma, DotDot}
 
 mutual
   -- idx = iterm { ( "+" | "-" ) iterm }

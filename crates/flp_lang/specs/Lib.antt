@@ -1,10 +1,6 @@
-pub mod Tokens
-pub mod Tree
 pub mod Grammar
 pub mod Verdict
 pub mod Marks
 pub mod Plan
 pub mod Run
-pub mod View
 pub mod Parsed
-pub mod WellFormed

@@ -1,9 +1,9 @@
 -- Tokens told apart by tests.
 use Rattle.std.specs.Prelude.{ℕ, Bool, false, eqb}
-use Rattle.flp_lang.specs.declared.token.Token.{Token}
-use Rattle.flp_lang.specs.declared.token.Token.TheVariants.{Number, Name, Fixed}
-use Rattle.flp_lang.specs.declared.token.Mark.{Mark}
-use Rattle.flp_lang.specs.declared.token.Mark.TheVariants.{Use, Meas, Joint, Gadget, Check, Out, Each, Sum, In, Mul, Poly, Psum, Semicolon, Equals, OpenBracket, CloseBracket, Question, Open, Close, Plus, Minus, Star, Caret, Comma, DotDot}
+use Rattle.flp_syntax.specs.declared.token.Token.{Token}
+use Rattle.flp_syntax.specs.declared.token.Token.TheVariants.{Number, Name, Fixed}
+use Rattle.flp_syntax.specs.declared.token.Mark.{Mark}
+use Rattle.flp_syntax.specs.declared.token.Mark.TheVariants.{Use, Meas, Joint, Gadget, Check, Out, Each, Sum, In, Mul, Poly, Psum, Semicolon, Equals, OpenBracket, CloseBracket, Question, Open, Close, Plus, Minus, Star, Caret, Comma, DotDot}
 
 -- the number of a mark
 abbrev pub mark_number : Mark → ℕ

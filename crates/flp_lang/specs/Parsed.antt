@@ -1,11 +1,11 @@
 -- What a text is parsed to: the one circuit that the grammar derives from all its tokens, or the first fault.
 use Rattle.std.specs.Prelude.{ℕ, ◌≡◌, ◌<◌, ◌≤◌, List, length}
-use Rattle.flp_lang.specs.Tokens.{IsLexed, IsStuck}
-use Rattle.flp_lang.specs.Tree.{Text}
+use Rattle.flp_syntax.specs.Tokens.{IsLexed, IsStuck}
+use Rattle.flp_syntax.specs.Tree.{Text}
 use Rattle.flp_lang.specs.Verdict.{Verdict, good, bad, deep, Judged}
-use Rattle.flp_lang.specs.declared.fault.LangFault.{LangFault}
-use Rattle.flp_lang.specs.declared.fault.LangFault.TheVariants.{Memory, TextLength, Lex, Syntax, Depth}
-use Rattle.flp_lang.specs.declared.token.Token.{Token}
+use Rattle.flp_syntax.specs.declared.fault.LangFault.{LangFault}
+use Rattle.flp_syntax.specs.declared.fault.LangFault.TheVariants.{Memory, TextLength, Lex, Syntax, Depth}
+use Rattle.flp_syntax.specs.declared.token.Token.{Token}
 
 -- the text is tokens, and the tokens have this verdict
 abbrev pub HasVerdict : List ℕ → Verdict → Type 0

@@ -2,16 +2,16 @@
 -- Internal: the promises speak of the grammar alone.
 use Rattle.std.specs.Prelude.{ℕ, suc, Bool, true, false, cond, List, [], ◌∷◌, Option, None, Some, codes}
 use Rattle.std.specs.Str.{bytes_eq}
-use Rattle.flp_lang.specs.Tree.{Index, index_number, index_var, index_sum, index_product, Tree, number, var, joint, meas, meas_or_zero, sum, call, sum_of, product_of, power_of, Argument, one, each_arg, arguments, Statement, check, out, each, statements, Kind, mul_kind, poly_kind, psum_kind, Declaration, Program, Text, standard, program}
+use Rattle.flp_syntax.specs.Tree.{Index, index_number, index_var, index_sum, index_product, Tree, number, var, joint, meas, meas_or_zero, sum, call, sum_of, product_of, power_of, Argument, one, each_arg, arguments, Statement, check, out, each, statements, Kind, mul_kind, poly_kind, psum_kind, Declaration, Program, Text, standard, program}
 use Rattle.flp_lang.specs.Grammar.{IsIndex, MoreIndexTerms, IsIndexTerm, MoreIndexFactors, IsIndexPrim, IsExpr, MoreTerms, IsTerm, MoreFactors, IsFactor, IsExponent, IsPrim, IsArgs, MoreArgs, IsArg, IsStmt, IsStmts, MoreStmts, IsCoef, MoreCoefs, IsKind, IsDecl, MoreDecls, IsBody, IsSetting, IsCircuit}
 use Rattle.flp_lang.specs.Marks.{is_mark}
-use Rattle.flp_lang.specs.declared.syntax.Coef.{Coef}
-use Rattle.flp_lang.specs.declared.syntax.Params.{Params}
-use Rattle.flp_lang.specs.declared.syntax.Params.TheVariants as params
-use Rattle.flp_lang.specs.declared.token.Token.{Token}
-use Rattle.flp_lang.specs.declared.token.Token.TheVariants.{Number, Name, Fixed}
-use Rattle.flp_lang.specs.declared.token.Mark.{Mark}
-use Rattle.flp_lang.specs.declared.token.Mark.TheVariants.{Use, Meas, Joint, Gadget, Check, Out, Each, Sum, In, Mul, Poly, Psum, Semicolon, Equals, OpenBracket, CloseBracket, Question, Open, Close, Plus, Minus, Star, Caret, Comma, DotDot}
+use Rattle.flp_syntax.specs.declared.syntax.Coef.{Coef}
+use Rattle.flp_syntax.specs.declared.syntax.Params.{Params}
+use Rattle.flp_syntax.specs.declared.syntax.Params.TheVariants as params
+use Rattle.flp_syntax.specs.declared.token.Token.{Token}
+use Rattle.flp_syntax.specs.declared.token.Token.TheVariants.{Number, Name, Fixed}
+use Rattle.flp_syntax.specs.declared.token.Mark.{Mark}
+use Rattle.flp_syntax.specs.declared.token.Mark.TheVariants.{Use, Meas, Joint, Gadget, Check, Out, Each, Sum, In, Mul, Poly, Psum, Semicolon, Equals, OpenBracket, CloseBracket, Question, Open, Close, Plus, Minus, Star, Caret, Comma, DotDot}
 
 -- a part of a text
 pub data Part : Type 0 where

@@ -1,23 +1,23 @@
 -- The tokens taken one by one, each at its place and under the levels that are open. Internal.
 use Rattle.std.specs.Prelude.{ℕ, suc, ◌+◌, Bool, true, false, cond, codes, nat_lt, List, [], ◌∷◌, Option, None, Some, ◌≡◌, Result, Ok, Err}
 use Rattle.std.specs.Str.{bytes_eq}
-use Rattle.flp_lang.specs.Tree.{Text, Tree, joint, sum, Statement, check, out, each, statements, Kind, mul_kind, poly_kind, psum_kind}
-use Rattle.flp_lang.specs.declared.syntax.Params.{Params}
-use Rattle.flp_lang.specs.declared.syntax.Params.TheVariants as params
+use Rattle.flp_syntax.specs.Tree.{Text, Tree, joint, sum, Statement, check, out, each, statements, Kind, mul_kind, poly_kind, psum_kind}
+use Rattle.flp_syntax.specs.declared.syntax.Params.{Params}
+use Rattle.flp_syntax.specs.declared.syntax.Params.TheVariants as params
 use Rattle.flp_lang.specs.declared.standard.Which.{Which}
 use Rattle.flp_lang.specs.declared.standard.Which.TheVariants as whiches
 use Rattle.flp_lang.specs.Plan as plan
 use Rattle.flp_lang.specs.Plan.{Plan, done, next, fixed, range, named, meas_at, after_token, at_end}
 use Rattle.flp_lang.specs.Marks.{is_mark}
 use Rattle.flp_lang.specs.Verdict.{Verdict, good, bad, deep, moved}
-use Rattle.flp_lang.specs.declared.fault.LangFault.{LangFault}
-use Rattle.flp_lang.specs.declared.fault.LangFault.TheVariants.{Memory, Syntax, Depth}
+use Rattle.flp_syntax.specs.declared.fault.LangFault.{LangFault}
+use Rattle.flp_syntax.specs.declared.fault.LangFault.TheVariants.{Memory, Syntax, Depth}
 use Rattle.flp_lang.specs.declared.parser.Start.{Start}
 use Rattle.flp_lang.specs.declared.parser.Start.TheVariants as Starts
-use Rattle.flp_lang.specs.declared.token.Mark.{Mark}
-use Rattle.flp_lang.specs.declared.token.Token.{Token}
-use Rattle.flp_lang.specs.declared.token.Token.TheVariants.{Number, Name, Fixed}
-use Rattle.flp_lang.specs.declared.token.Mark.TheVariants.{Psum, OpenBracket, Open, Close, CloseBracket, Plus, Minus, Joint, Meas, Sum, Check, Out, Each, Semicolon}
+use Rattle.flp_syntax.specs.declared.token.Mark.{Mark}
+use Rattle.flp_syntax.specs.declared.token.Token.{Token}
+use Rattle.flp_syntax.specs.declared.token.Token.TheVariants.{Number, Name, Fixed}
+use Rattle.flp_syntax.specs.declared.token.Mark.TheVariants.{Psum, OpenBracket, Open, Close, CloseBracket, Plus, Minus, Joint, Meas, Sum, Check, Out, Each, Semicolon}
 
 -- whether the token opens the 65th level
 abbrev pub too_deep : Token → ℕ × ℕ → Bool

@@ -1,10 +1,10 @@
 -- What a list of tokens is judged to be: a circuit text, or faulty at a token. From the verdict down to its parts.
 use Rattle.std.specs.Prelude.{ℕ, suc, ◌+◌, ◌-◌, ◌≤◌, ◌≡◌, List, [], ◌∷◌, ◌++◌, length}
-use Rattle.flp_lang.specs.Tree.{Text}
+use Rattle.flp_syntax.specs.Tree.{Text}
 use Rattle.flp_lang.specs.Grammar.{IsText}
-use Rattle.flp_lang.specs.declared.token.Token.{Token}
-use Rattle.flp_lang.specs.declared.token.Token.TheVariants.{Fixed}
-use Rattle.flp_lang.specs.declared.token.Mark.TheVariants.{Psum, Semicolon, OpenBracket, CloseBracket, Open, Close}
+use Rattle.flp_syntax.specs.declared.token.Token.{Token}
+use Rattle.flp_syntax.specs.declared.token.Token.TheVariants.{Fixed}
+use Rattle.flp_syntax.specs.declared.token.Mark.TheVariants.{Psum, Semicolon, OpenBracket, CloseBracket, Open, Close}
 
 -- a text, the number of the token that is no good, or the number of the token that opens one level too many
 pub data Verdict : Type 0 where

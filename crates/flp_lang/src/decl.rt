@@ -1,18 +1,16 @@
 //! The rules of declarations.
 ghost use Rattle.std.specs.Prelude.{◌≡◌, ◌+◌, ◌≤◌, ◌<◌, ◌∷◌, ℕ, List, suc, length, map, IfOk};
-ghost use Rattle.flp_lang.specs.Tree.{Kind, Declaration, poly_kind};
-ghost use Rattle.flp_lang.specs.View.{kind_of, declaration_of};
+ghost use Rattle.flp_syntax.specs.Tree.{Kind, Declaration, poly_kind};
+ghost use Rattle.flp_syntax.specs.View.{kind_of, declaration_of};
 ghost use Rattle.flp_lang.specs.Plan as plan;
 ghost use Rattle.flp_lang.specs.Plan.{Plan, next, fixed};
 ghost use Rattle.flp_lang.specs.Run.{Runs, psums};
-ghost use Rattle.flp_lang.specs.declared.syntax.Coef.{Coef};
-ghost use Rattle.flp_lang.specs.declared.token.Mark.TheVariants.{Psum, Poly};
+ghost use Rattle.flp_syntax.specs.declared.syntax.Coef.{Coef};
+ghost use Rattle.flp_syntax.specs.declared.token.Mark.TheVariants.{Psum, Poly};
 
-use crate::fault::LangFault;
 use crate::parser::{MAX_DEPTH, Parser};
-use crate::syntax::{Coef, Decl, KindText};
-use crate::token::Mark;
 use flp_list::List;
+use flp_syntax::{Coef, Decl, KindText, LangFault, Mark};
 
 impl Parser<'_> {
     /// `decl { decl }`

@@ -1,20 +1,18 @@
 //! The rules of expressions.
 ghost use Rattle.std.specs.Prelude.{◌≡◌, ◌≤◌, ◌<◌, ℕ, List, Bool, Option, Some, None, length, map, IfOk, ◌∷◌};
-ghost use Rattle.flp_lang.specs.Tree.{Index, Tree, Argument, number, tree_at, sum_of, product_of, power_of};
-ghost use Rattle.flp_lang.specs.View.{index_of, tree_of, item_of, arg_of};
+ghost use Rattle.flp_syntax.specs.Tree.{Index, Tree, Argument, number, tree_at, sum_of, product_of, power_of};
+ghost use Rattle.flp_syntax.specs.View.{index_of, tree_of, item_of, arg_of};
 ghost use Rattle.flp_lang.specs.Plan as plan;
 ghost use Rattle.flp_lang.specs.Plan.{Plan, next, fixed};
 ghost use Rattle.flp_lang.specs.Run.{Runs, joint_plan, meas_plan, sum_plan, named_plan};
 
-use crate::fault::LangFault;
 use crate::parser::{Parser, Start};
-use crate::syntax::{Arg, Expr, Idx, Item};
-use crate::token::Mark;
 use flp_list::List;
+use flp_syntax::{Arg, Expr, Idx, Item, LangFault, Mark};
 use std::alloc::{AllocError, Global};
 
 /// The number of the token that begins an expression.
-#[tactic(auto, using(crate::specs::View::view_equations))]
+#[tactic(auto, using(flp_syntax::specs::View::view_equations))]
 fn tree_at(expr: &Expr) -> u32
     ensures { result ≡ tree_at (tree_of expr.now) }
 {

@@ -1,20 +1,18 @@
 //! The rules of indices.
 ghost use Rattle.std.specs.Prelude.{◌≡◌, ◌≤◌, ◌<◌, ℕ, List, Bool, length, map, IfOk};
-ghost use Rattle.flp_lang.specs.Tree.{Index, index_sum, index_product, index_at};
-ghost use Rattle.flp_lang.specs.View.{index_of, index_item_of};
+ghost use Rattle.flp_syntax.specs.Tree.{Index, index_sum, index_product, index_at};
+ghost use Rattle.flp_syntax.specs.View.{index_of, index_item_of};
 ghost use Rattle.flp_lang.specs.Plan as plan;
 ghost use Rattle.flp_lang.specs.Plan.{Plan, next};
 ghost use Rattle.flp_lang.specs.Run.{Runs};
 
-use crate::fault::LangFault;
 use crate::parser::Parser;
-use crate::syntax::{Idx, IdxItem};
-use crate::token::Mark;
 use flp_list::List;
+use flp_syntax::{Idx, IdxItem, LangFault, Mark};
 use std::alloc::AllocError;
 
 /// The number of the token that begins an index.
-#[tactic(auto, using(crate::specs::View::view_equations))]
+#[tactic(auto, using(flp_syntax::specs::View::view_equations))]
 fn index_at(index: &Idx) -> u32
     ensures { result ≡ index_at (index_of index.now) }
 {
@@ -27,7 +25,7 @@ fn index_at(index: &Idx) -> u32
 }
 
 /// The sum of a first index and more; where there are no more, the first.
-#[tactic(auto, using(crate::specs::View::view_equations))]
+#[tactic(auto, using(flp_syntax::specs::View::view_equations))]
 fn index_sum(first: Idx, mut more: Vec<IdxItem>) -> Result<Idx, AllocError>
     ensures { IfOk result (λ v. index_of v ≡ index_sum (index_of first) (map index_item_of more.items)) }
 {
@@ -49,7 +47,7 @@ fn index_sum(first: Idx, mut more: Vec<IdxItem>) -> Result<Idx, AllocError>
 }
 
 /// The product of a first index and more; where there are no more, the first.
-#[tactic(auto, using(crate::specs::View::view_equations))]
+#[tactic(auto, using(flp_syntax::specs::View::view_equations))]
 fn index_product(first: Idx, mut more: Vec<Idx>) -> Result<Idx, AllocError>
     ensures { IfOk result (λ v. index_of v ≡ index_product (index_of first) (map index_of more.items)) }
 {
@@ -126,7 +124,7 @@ impl Parser<'_> {
 
     /// `iprim = NUMBER | NAME | "(" idx ")"`
     #[cycle(index)]
-    #[tactic(auto, using(crate::specs::View::view_equations))]
+    #[tactic(auto, using(flp_syntax::specs::View::view_equations))]
     pub fn index_prim(&mut self, level: u32) -> Result<Idx, LangFault>
         requires { level ≤ 64 }
         ensures runs { (K : Index → Plan) → Runs (level, 0) self.old.at (next plan.index_prim K) self.old.rest.now result (λ _. (level, 0)) self.new.at (λ v. K (index_of v)) self.new.rest.now }

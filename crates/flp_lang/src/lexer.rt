@@ -2,12 +2,11 @@
 ghost use Rattle.std.specs.Prelude.{◌≡◌, ◌<◌, ◌≤◌, ◌++◌, length, take, MatchOption, IfOk, IfErr, OnOk, IfSome, ◌==◌, vec_len, option_to_list, Some};
 ghost use Rattle.std.specs.List.{prefix_len};
 ghost use Rattle.flp_field.specs.Word.{modulus};
-ghost use Rattle.flp_lang.specs.Tokens.{is_blank, is_letter, is_digit, is_name_byte, is_comment_byte, digits_value, reserved, symbol, word_token, number_piece, symbol_piece, piece_of, IsLexed, IsLexFault};
+ghost use Rattle.flp_syntax.specs.Tokens.{is_blank, is_letter, is_digit, is_name_byte, is_comment_byte, digits_value, reserved, symbol, word_token, number_piece, symbol_piece, piece_of, IsLexed, IsLexFault};
 
-use crate::fault::LangFault;
-use crate::token::{Mark, Token};
 use flp_field::{Fe, MODULUS};
 use flp_list::List;
+use flp_syntax::{LangFault, Mark, Token};
 use std::alloc::{AllocError, Global};
 
 /// The most bytes that a circuit text may have.

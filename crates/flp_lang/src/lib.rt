@@ -1,7 +1,7 @@
 //! Circuit text: the language in which a circuit says when an encoding is valid.
 //!
 //! [`parse`] reads a text once, from left to right, and answers its syntax tree or the first fault. What a text is parsed to
-//! is stated apart from the parser: `specs/Tokens.antt` has the tokens of a text, `specs/Grammar.antt` the grammar as a
+//! is stated apart from the parser: `flp_syntax` has the tokens of a text and its trees, `specs/Grammar.antt` the grammar as a
 //! relation between tokens and trees, `specs/Verdict.antt` which token is at fault, and `specs/Parsed.antt` all of it for
 //! bytes. [`one_reading`] and [`one_verdict`] are laws of these definitions alone: no text has two answers, so the clauses of
 //! `parse` say exactly when each answer comes, want of memory aside.
@@ -15,19 +15,15 @@
 
 mod decl;
 mod expr;
-mod fault;
 mod index;
 mod lexer;
 mod parser;
 mod standard;
 mod stmt;
-mod syntax;
 mod text;
-mod token;
 
-pub use fault::{Counted, LangFault};
-pub use syntax::{
-    Arg, Body, Circuit, Coef, Decl, Expr, Idx, IdxItem, Item, KindText, Params, Stmt,
+pub use flp_syntax::{
+    Arg, Body, Circuit, Coef, Counted, Decl, Expr, Idx, IdxItem, Item, KindText, LangFault, Mark,
+    Params, Stmt, Token,
 };
 pub use text::{one_reading, one_verdict, parse};
-pub use token::{Mark, Token};

@@ -2,18 +2,16 @@
 ghost use Rattle.std.specs.Prelude.{◌≡◌, ◌+◌, ◌^◌, ◌<◌, ◌≤◌, ℕ, List, suc, false, length, IfOk, ◌∷◌};
 ghost use Rattle.flp_lang.specs.Plan.{Plan, next, a_mark, a_numeral, a_naming, setting, fixed, range};
 ghost use Rattle.flp_lang.specs.Plan as plan;
-ghost use Rattle.flp_lang.specs.Tree.{Index};
-ghost use Rattle.flp_lang.specs.View.{index_of};
+ghost use Rattle.flp_syntax.specs.Tree.{Index};
+ghost use Rattle.flp_syntax.specs.View.{index_of};
 ghost use Rattle.flp_lang.specs.Verdict.{moved};
 ghost use Rattle.flp_lang.specs.Run.{Runs, Eats, TakesSign, TakesNumber, TakesName, too_deep, is_next, start_of, starts_stmt, starts_coef, Skips, is_word, TakesWord};
-ghost use Rattle.flp_lang.specs.declared.token.Token.TheVariants.{Fixed};
-ghost use Rattle.flp_lang.specs.declared.token.Mark.TheVariants.{Open, OpenBracket, CloseBracket};
+ghost use Rattle.flp_syntax.specs.declared.token.Token.TheVariants.{Fixed};
+ghost use Rattle.flp_syntax.specs.declared.token.Mark.TheVariants.{Open, OpenBracket, CloseBracket};
 
-use crate::fault::LangFault;
-use crate::syntax::Idx;
-use crate::token::{Mark, Token};
 use flp_field::Fe;
 use flp_list::{Bytes, List};
+use flp_syntax::{Idx, LangFault, Mark, Token};
 use std::alloc::Global;
 
 /// What may begin a primary expression.

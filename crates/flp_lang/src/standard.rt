@@ -3,12 +3,10 @@ ghost use Rattle.std.specs.Prelude.{◌≡◌, ℕ, List};
 ghost use Rattle.flp_lang.specs.Plan as plan;
 ghost use Rattle.flp_lang.specs.Plan.{Plan, next, fixed, setting};
 ghost use Rattle.flp_lang.specs.Run.{Runs, which_of, which_starts, count_plan, sum_circuit_plan, sumvec_plan, histogram_plan, multihot_plan};
-ghost use Rattle.flp_lang.specs.declared.syntax.Params.{Params};
+ghost use Rattle.flp_syntax.specs.declared.syntax.Params.{Params};
 
-use crate::fault::LangFault;
 use crate::parser::Parser;
-use crate::syntax::Params;
-use crate::token::{Mark, Token};
+use flp_syntax::{LangFault, Mark, Params, Token};
 
 /// The standard circuits that are told apart by a name.
 #[derive(Clone, Copy)]

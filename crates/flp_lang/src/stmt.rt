@@ -1,16 +1,14 @@
 //! The rules of statements.
 ghost use Rattle.std.specs.Prelude.{◌≡◌, ◌≤◌, ◌<◌, ℕ, List, length, map, IfOk};
-ghost use Rattle.flp_lang.specs.Tree.{Statement};
-ghost use Rattle.flp_lang.specs.View.{statement_of};
+ghost use Rattle.flp_syntax.specs.Tree.{Statement};
+ghost use Rattle.flp_syntax.specs.View.{statement_of};
 ghost use Rattle.flp_lang.specs.Plan as plan;
 ghost use Rattle.flp_lang.specs.Plan.{Plan, next, fixed};
 ghost use Rattle.flp_lang.specs.Run.{Runs, check_plan, out_plan, each_plan};
 
-use crate::fault::LangFault;
 use crate::parser::Parser;
-use crate::syntax::Stmt;
-use crate::token::Mark;
 use flp_list::List;
+use flp_syntax::{LangFault, Mark, Stmt};
 
 impl Parser<'_> {
     /// `stmt { stmt }`

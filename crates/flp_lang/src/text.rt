@@ -1,22 +1,20 @@
 //! From a text to its circuit.
 ghost use Rattle.std.specs.Prelude.{◌≡◌, ◌^◌, ◌<◌, ℕ, List, [], length, IfOk, IfErr};
-ghost use Rattle.flp_lang.specs.Tree.{Text, Program};
-ghost use Rattle.flp_lang.specs.View.{program_of, text_of};
+ghost use Rattle.flp_syntax.specs.Tree.{Text, Program};
+ghost use Rattle.flp_syntax.specs.View.{program_of, text_of};
 ghost use Rattle.flp_lang.specs.Plan as plan;
 ghost use Rattle.flp_lang.specs.Plan.{Plan, next, done};
 ghost use Rattle.flp_lang.specs.Run.{Runs, IsFault, verdict};
 ghost use Rattle.flp_lang.specs.Verdict.{Verdict, good, Judged};
-ghost use Rattle.flp_lang.specs.Tokens.{AreTokens, IsStuck};
-ghost use Rattle.flp_lang.specs.declared.token.Token.{Token};
+ghost use Rattle.flp_syntax.specs.Tokens.{AreTokens, IsStuck};
+ghost use Rattle.flp_syntax.specs.declared.token.Token.{Token};
 ghost use Rattle.flp_lang.specs.Parsed.{IsParsed, IsParseFault};
-ghost use Rattle.flp_lang.specs.WellFormed.{IsWellFormed};
+ghost use Rattle.flp_syntax.specs.WellFormed.{IsWellFormed};
 
-use crate::fault::LangFault;
 use crate::lexer::tokens_of;
 use crate::parser::Parser;
-use crate::syntax::{Body, Circuit};
-use crate::token::{Mark, Token};
 use flp_list::List;
+use flp_syntax::{Body, Circuit, LangFault, Mark, Token};
 use std::alloc::Global;
 
 impl Parser<'_> {
@@ -96,7 +94,7 @@ pub fn one_reading()
 #[cfg(test)]
 mod tests {
     use super::*;
-    use crate::syntax::{Expr, Item, Params, Stmt};
+    use flp_syntax::{Expr, Item, Params, Stmt};
     use std::test::Fail;
 
     /// `meas 1; joint 0; gadget g = mul;` is tokens 0 to 10.

@@ -1,5 +1,5 @@
 use Rattle.std.proofs.Common.{◌∙◌, refl}
-use Rattle.flp_lang.specs.View.{tree_of_Pow}
+use Rattle.flp_syntax.specs.View.{tree_of_Pow}
 use Rattle.flp_lang.proofs.expr.power_of.Goals as goal
 
 pub returns : goal.returns

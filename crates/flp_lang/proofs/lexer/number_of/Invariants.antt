@@ -1,6 +1,6 @@
 use Rattle.std.proofs.Common.{◌≡◌, ◌<◌, drop}
 use Rattle.flp_field.specs.Word.{modulus}
-use Rattle.flp_lang.specs.Tokens.{digits_value, digits_from}
+use Rattle.flp_syntax.specs.Tokens.{digits_value, digits_from}
 use Rattle.flp_lang.proofs.lexer.number_of.Given as goal
 
 -- the digits so far have this value, and the rest goes on from it

@@ -1,5 +1,5 @@
 use Rattle.std.proofs.Common.{arith, ◌∙◌, length, subst, sym, ap}
-use Rattle.flp_lang.specs.Tokens.{Reads, nothing_read}
+use Rattle.flp_syntax.specs.Tokens.{Reads, nothing_read}
 use Rattle.flp_lang.proofs.Readings.{reads-step, few-step}
 use Rattle.flp_lang.proofs.lexer.tokens_of.Goals as goal
 

@@ -1,5 +1,5 @@
 use Rattle.std.proofs.Common.{◌+◌, ◌≤◌, length}
-use Rattle.flp_lang.specs.Tokens.{Reads}
+use Rattle.flp_syntax.specs.Tokens.{Reads}
 use Rattle.flp_lang.proofs.lexer.tokens_of.Given as goal
 
 -- the text is the tokens so far and the rest, and there are no more tokens than bytes

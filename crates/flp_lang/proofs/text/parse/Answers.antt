@@ -1,5 +1,5 @@
 use Rattle.std.proofs.Common.{sym, subst}
-use Rattle.flp_lang.specs.Tokens.{IsLexed}
+use Rattle.flp_syntax.specs.Tokens.{IsLexed}
 use Rattle.flp_lang.proofs.Parsing.{parsed_ok, parsed_err}
 use Rattle.flp_lang.proofs.WellFormed.{parsed_well}
 use Rattle.std.proofs.Common.{◌≤◌, length}

@@ -1,9 +1,9 @@
 use Rattle.std.proofs.Common.{arith, ◌∙◌, refl, sym, ap, ◌++◌, [], ◌∷◌, map, List, Bool, Some}
 use Rattle.flp_lang.specs.Plan as plan
 use Rattle.flp_lang.specs.Plan.{Plan, next, fixed, range, named, meas_at}
-use Rattle.flp_lang.specs.Tree.{Tree, Argument, sum, call, one, each_arg, arguments, sum_of, product_of, power_of}
-use Rattle.flp_lang.specs.View.{index_of, tree_of, item_of, arg_of, tree_of_Var, tree_of_Sum, tree_of_Call, item_of_roll, arg_of_One, arg_of_Each}
-use Rattle.flp_lang.specs.declared.token.Mark.TheVariants.{Close}
+use Rattle.flp_syntax.specs.Tree.{Tree, Argument, sum, call, one, each_arg, arguments, sum_of, product_of, power_of}
+use Rattle.flp_syntax.specs.View.{index_of, tree_of, item_of, arg_of, tree_of_Var, tree_of_Sum, tree_of_Call, item_of_roll, arg_of_One, arg_of_Each}
+use Rattle.flp_syntax.specs.declared.token.Mark.TheVariants.{Close}
 use Rattle.flp_lang.proofs.Moves as moves
 use Rattle.flp_lang.proofs.Moves.{fails, level_closed, value_read, more_read, all_read, along}
 use Rattle.flp_lang.proofs.parser.Parser.+expr.Goals as goal

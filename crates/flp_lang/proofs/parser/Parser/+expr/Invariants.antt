@@ -1,6 +1,6 @@
 use Rattle.std.proofs.Common.{◌≡◌, ◌≤◌, ◌<◌, ◌+◌, ◌*◌, ◌++◌, List, Bool, length, map}
-use Rattle.flp_lang.specs.Tree.{Tree, Argument}
-use Rattle.flp_lang.specs.View.{tree_of, item_of, arg_of}
+use Rattle.flp_syntax.specs.Tree.{Tree, Argument}
+use Rattle.flp_syntax.specs.View.{tree_of, item_of, arg_of}
 use Rattle.flp_lang.specs.Plan as plan
 use Rattle.flp_lang.specs.Plan.{Plan, next}
 use Rattle.flp_lang.specs.Run.{run}

@@ -1,9 +1,9 @@
 use Rattle.std.proofs.Common.{arith, refl, ◌∙◌, ap, ◌++◌, ◌∷◌, map, List, Bool}
 use Rattle.flp_lang.specs.Plan as plan
 use Rattle.flp_lang.specs.Plan.{Plan, next, fixed}
-use Rattle.flp_lang.specs.Tree.{Index, index_number, index_sum, index_product}
-use Rattle.flp_lang.specs.View.{index_of, index_item_of, index_of_Number, index_of_Var, index_item_of_roll}
-use Rattle.flp_lang.specs.declared.token.Mark.TheVariants.{Close}
+use Rattle.flp_syntax.specs.Tree.{Index, index_number, index_sum, index_product}
+use Rattle.flp_syntax.specs.View.{index_of, index_item_of, index_of_Number, index_of_Var, index_item_of_roll}
+use Rattle.flp_syntax.specs.declared.token.Mark.TheVariants.{Close}
 use Rattle.flp_lang.proofs.Moves.{fails, more_read, all_read, index_head, index_term_head, index_terms_sign, index_terms_end, index_factors_star, index_factors_end, index_number_there, value_read, index_name_after, index_group_after, level_closed}
 use Rattle.flp_lang.proofs.parser.Parser.+index.Goals as goal
 

@@ -1,6 +1,6 @@
 use Rattle.std.proofs.Common.{◌≡◌, ◌≤◌, ◌+◌, ◌*◌, ◌++◌, List, Bool, length, map}
-use Rattle.flp_lang.specs.Tree.{Index}
-use Rattle.flp_lang.specs.View.{index_of, index_item_of}
+use Rattle.flp_syntax.specs.Tree.{Index}
+use Rattle.flp_syntax.specs.View.{index_of, index_item_of}
 use Rattle.flp_lang.specs.Plan as plan
 use Rattle.flp_lang.specs.Plan.{Plan, next}
 use Rattle.flp_lang.specs.Run.{run}

@@ -1,8 +1,8 @@
 use Rattle.std.proofs.Common.{◌∙◌, refl, sym, ap}
 use Rattle.flp_lang.specs.Plan as plan
 use Rattle.flp_lang.specs.Plan.{Plan, done, next, fixed, range}
-use Rattle.flp_lang.specs.Tree.{mul_kind, poly_kind, psum_kind}
-use Rattle.flp_lang.specs.View.{kind_of, kind_of_Mul, kind_of_Poly, kind_of_Psum}
+use Rattle.flp_syntax.specs.Tree.{mul_kind, poly_kind, psum_kind}
+use Rattle.flp_syntax.specs.View.{kind_of, kind_of_Mul, kind_of_Poly, kind_of_Psum}
 use Rattle.flp_lang.proofs.Moves as moves
 use Rattle.flp_lang.proofs.Moves.{fails, level_closed, value_read, more_read, all_read, one_read, list_read, along}
 use Rattle.flp_lang.proofs.parser.Parser.+kind.Goals as goal

@@ -1,9 +1,9 @@
 use Rattle.std.proofs.Common.{arith, ◌∙◌, refl, sym, ap, ◌++◌, [], ◌∷◌, map, List}
 use Rattle.flp_lang.specs.Plan as plan
 use Rattle.flp_lang.specs.Plan.{Plan, done, next, fixed, range}
-use Rattle.flp_lang.specs.Tree.{Statement, each, statements}
-use Rattle.flp_lang.specs.View.{index_of, statement_of, statement_of_Each}
-use Rattle.flp_lang.specs.declared.token.Mark.TheVariants.{Close}
+use Rattle.flp_syntax.specs.Tree.{Statement, each, statements}
+use Rattle.flp_syntax.specs.View.{index_of, statement_of, statement_of_Each}
+use Rattle.flp_syntax.specs.declared.token.Mark.TheVariants.{Close}
 use Rattle.flp_lang.proofs.Moves as moves
 use Rattle.flp_lang.proofs.Moves.{fails, level_closed, value_read, more_read, all_read, one_read, list_read, along}
 use Rattle.flp_lang.proofs.parser.Parser.+stmt.Goals as goal

@@ -1,6 +1,6 @@
 use Rattle.std.proofs.Common.{◌≡◌, ◌<◌, ◌+◌, ◌*◌, ◌++◌, List, length, map}
-use Rattle.flp_lang.specs.Tree.{Statement}
-use Rattle.flp_lang.specs.View.{statement_of}
+use Rattle.flp_syntax.specs.Tree.{Statement}
+use Rattle.flp_syntax.specs.View.{statement_of}
 use Rattle.flp_lang.specs.Plan as plan
 use Rattle.flp_lang.specs.Plan.{Plan, next}
 use Rattle.flp_lang.specs.Run.{run}

@@ -1,9 +1,9 @@
 use Rattle.std.proofs.Common.{◌∙◌, refl, ◌∷◌, map}
 use Rattle.flp_lang.specs.Plan as plan
 use Rattle.flp_lang.specs.Plan.{Plan, done, next, fixed, range}
-use Rattle.flp_lang.specs.Tree.{statements}
-use Rattle.flp_lang.specs.View.{declaration_of}
-use Rattle.flp_lang.specs.declared.token.Mark.TheVariants.{Semicolon, Joint}
+use Rattle.flp_syntax.specs.Tree.{statements}
+use Rattle.flp_syntax.specs.View.{declaration_of}
+use Rattle.flp_syntax.specs.declared.token.Mark.TheVariants.{Semicolon, Joint}
 use Rattle.flp_lang.proofs.Moves as moves
 use Rattle.flp_lang.proofs.Moves.{fails, level_closed, value_read, more_read, all_read, one_read, list_read, along}
 use Rattle.flp_lang.proofs.parser.Parser.body.Goals as goal

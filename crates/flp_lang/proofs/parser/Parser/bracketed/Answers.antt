@@ -1,8 +1,8 @@
 use Rattle.std.proofs.Common.{◌∙◌, refl}
 use Rattle.flp_lang.specs.Plan as plan
 use Rattle.flp_lang.specs.Plan.{Plan, next, fixed}
-use Rattle.flp_lang.specs.View.{index_of}
-use Rattle.flp_lang.specs.declared.token.Mark.TheVariants.{CloseBracket}
+use Rattle.flp_syntax.specs.View.{index_of}
+use Rattle.flp_syntax.specs.declared.token.Mark.TheVariants.{CloseBracket}
 use Rattle.flp_lang.proofs.Moves.{fails, level_closed}
 use Rattle.flp_lang.proofs.parser.Parser.bracketed.Goals as goal
 

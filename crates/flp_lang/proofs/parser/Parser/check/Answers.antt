@@ -1,9 +1,9 @@
 use Rattle.std.proofs.Common.{◌∙◌, refl}
 use Rattle.flp_lang.specs.Plan as plan
 use Rattle.flp_lang.specs.Plan.{Plan, done, next, fixed, range}
-use Rattle.flp_lang.specs.Tree.{check}
-use Rattle.flp_lang.specs.View.{tree_of, statement_of_Check}
-use Rattle.flp_lang.specs.declared.token.Mark.TheVariants.{Semicolon}
+use Rattle.flp_syntax.specs.Tree.{check}
+use Rattle.flp_syntax.specs.View.{tree_of, statement_of_Check}
+use Rattle.flp_syntax.specs.declared.token.Mark.TheVariants.{Semicolon}
 use Rattle.flp_lang.proofs.Moves.{value_read}
 use Rattle.flp_lang.proofs.parser.Parser.check.Goals as goal
 

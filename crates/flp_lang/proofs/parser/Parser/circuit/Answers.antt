@@ -1,7 +1,7 @@
 use Rattle.std.proofs.Common.{◌∙◌, refl, sym}
 use Rattle.flp_lang.specs.Plan as plan
 use Rattle.flp_lang.specs.Plan.{Plan, done, next, fixed, range}
-use Rattle.flp_lang.specs.Tree.{standard, program}
+use Rattle.flp_syntax.specs.Tree.{standard, program}
 use Rattle.flp_lang.proofs.Moves as moves
 use Rattle.flp_lang.proofs.Moves.{fails, level_closed, value_read, more_read, all_read, one_read, list_read, along}
 use Rattle.flp_lang.proofs.parser.Parser.circuit.Goals as goal

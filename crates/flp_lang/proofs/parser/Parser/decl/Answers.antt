@@ -2,8 +2,8 @@ use Rattle.std.proofs.Common.{◌∙◌, refl, ◌+◌}
 use Rattle.flp_lang.specs.Plan as plan
 use Rattle.flp_lang.specs.Plan.{Plan, done, next, fixed, range}
 use Rattle.flp_lang.specs.Run.{psums}
-use Rattle.flp_lang.specs.View.{kind_of}
-use Rattle.flp_lang.specs.declared.token.Mark.TheVariants.{Semicolon, Equals}
+use Rattle.flp_syntax.specs.View.{kind_of}
+use Rattle.flp_syntax.specs.declared.token.Mark.TheVariants.{Semicolon, Equals}
 use Rattle.flp_lang.proofs.Moves as moves
 use Rattle.flp_lang.proofs.Moves.{fails, level_closed, value_read, more_read, all_read, one_read, list_read, along}
 use Rattle.flp_lang.proofs.parser.Parser.decl.Goals as goal

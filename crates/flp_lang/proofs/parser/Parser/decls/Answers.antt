@@ -1,8 +1,8 @@
 use Rattle.std.proofs.Common.{◌∙◌, refl, sym, ap, ◌++◌, [], ◌∷◌, map, List}
 use Rattle.flp_lang.specs.Plan as plan
 use Rattle.flp_lang.specs.Plan.{Plan, done, next, fixed, range}
-use Rattle.flp_lang.specs.Tree.{Declaration}
-use Rattle.flp_lang.specs.View.{declaration_of}
+use Rattle.flp_syntax.specs.Tree.{Declaration}
+use Rattle.flp_syntax.specs.View.{declaration_of}
 use Rattle.flp_lang.proofs.Moves as moves
 use Rattle.flp_lang.proofs.Moves.{fails, level_closed, value_read, more_read, all_read, one_read, list_read, along}
 use Rattle.flp_lang.proofs.parser.Parser.decls.Goals as goal

@@ -1,6 +1,6 @@
 use Rattle.std.proofs.Common.{◌≡◌, ◌++◌, ◌∷◌, List, length, map}
-use Rattle.flp_lang.specs.Tree.{Declaration}
-use Rattle.flp_lang.specs.View.{declaration_of}
+use Rattle.flp_syntax.specs.Tree.{Declaration}
+use Rattle.flp_syntax.specs.View.{declaration_of}
 use Rattle.flp_lang.specs.Plan as plan
 use Rattle.flp_lang.specs.Plan.{Plan, next}
 use Rattle.flp_lang.specs.Run.{run}

@@ -1,9 +1,9 @@
 use Rattle.std.proofs.Common.{◌∙◌, refl}
 use Rattle.flp_lang.specs.Plan as plan
 use Rattle.flp_lang.specs.Plan.{Plan, next, fixed, range, named, meas_at}
-use Rattle.flp_lang.specs.Tree.{joint}
-use Rattle.flp_lang.specs.View.{tree_of_Joint}
-use Rattle.flp_lang.specs.declared.token.Mark.TheVariants.{OpenBracket, CloseBracket}
+use Rattle.flp_syntax.specs.Tree.{joint}
+use Rattle.flp_syntax.specs.View.{tree_of_Joint}
+use Rattle.flp_syntax.specs.declared.token.Mark.TheVariants.{OpenBracket, CloseBracket}
 use Rattle.flp_lang.proofs.Moves.{fails, value_read}
 use Rattle.flp_lang.proofs.parser.Parser.joint.Goals as goal
 

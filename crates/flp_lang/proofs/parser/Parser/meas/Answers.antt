@@ -1,8 +1,8 @@
 use Rattle.std.proofs.Common.{◌∙◌, refl}
 use Rattle.flp_lang.specs.Plan as plan
 use Rattle.flp_lang.specs.Plan.{Plan, next, fixed, range, named, meas_at}
-use Rattle.flp_lang.specs.View.{tree_of_Meas, tree_of_MeasOrZero}
-use Rattle.flp_lang.specs.declared.token.Mark.TheVariants.{OpenBracket, CloseBracket}
+use Rattle.flp_syntax.specs.View.{tree_of_Meas, tree_of_MeasOrZero}
+use Rattle.flp_syntax.specs.declared.token.Mark.TheVariants.{OpenBracket, CloseBracket}
 use Rattle.flp_lang.proofs.Moves as moves
 use Rattle.flp_lang.proofs.Moves.{fails, level_closed, value_read, more_read, all_read, along}
 use Rattle.flp_lang.proofs.parser.Parser.meas.Goals as goal

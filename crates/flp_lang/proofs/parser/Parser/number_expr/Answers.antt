@@ -1,6 +1,6 @@
 use Rattle.std.proofs.Common.{◌∙◌}
-use Rattle.flp_lang.specs.Tree.{number}
-use Rattle.flp_lang.specs.View.{tree_of_Number}
+use Rattle.flp_syntax.specs.Tree.{number}
+use Rattle.flp_syntax.specs.View.{tree_of_Number}
 use Rattle.flp_lang.proofs.Moves.{value_read}
 use Rattle.flp_lang.proofs.parser.Parser.number_expr.Goals as goal
 

@@ -1,8 +1,8 @@
 use Rattle.std.proofs.Common.{arith, ◌∙◌, refl, sym, ap, ◌++◌, [], ◌∷◌, List}
 use Rattle.flp_lang.specs.Plan as plan
 use Rattle.flp_lang.specs.Plan.{Plan, done, next, fixed, range}
-use Rattle.flp_lang.specs.Tree.{poly_kind}
-use Rattle.flp_lang.specs.declared.syntax.Coef.{Coef}
+use Rattle.flp_syntax.specs.Tree.{poly_kind}
+use Rattle.flp_syntax.specs.declared.syntax.Coef.{Coef}
 use Rattle.flp_lang.proofs.Moves as moves
 use Rattle.flp_lang.proofs.Moves.{fails, level_closed, value_read, more_read, all_read, one_read, list_read, along}
 use Rattle.flp_lang.proofs.parser.Parser.poly.Goals as goal

@@ -1,9 +1,9 @@
 use Rattle.std.proofs.Common.{◌≡◌, ◌<◌, ◌++◌, ◌∷◌, length}
-use Rattle.flp_lang.specs.Tree.{Kind, poly_kind}
+use Rattle.flp_syntax.specs.Tree.{Kind, poly_kind}
 use Rattle.flp_lang.specs.Plan as plan
 use Rattle.flp_lang.specs.Plan.{Plan, next, fixed}
 use Rattle.flp_lang.specs.Run.{run}
-use Rattle.flp_lang.specs.declared.token.Mark.TheVariants.{Poly}
+use Rattle.flp_syntax.specs.declared.token.Mark.TheVariants.{Poly}
 use Rattle.flp_lang.proofs.parser.Parser.poly.Given as goal
 
 -- the coefficients so far, and those still to come

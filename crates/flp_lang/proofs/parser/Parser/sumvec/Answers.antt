@@ -1,8 +1,8 @@
 use Rattle.std.proofs.Common.{◌∙◌, refl, codes}
 use Rattle.flp_lang.specs.Plan as plan
 use Rattle.flp_lang.specs.Plan.{Plan, done, next, fixed, range}
-use Rattle.flp_lang.specs.declared.syntax.Params.TheVariants as params
-use Rattle.flp_lang.specs.declared.token.Mark.TheVariants.{Semicolon}
+use Rattle.flp_syntax.specs.declared.syntax.Params.TheVariants as params
+use Rattle.flp_syntax.specs.declared.token.Mark.TheVariants.{Semicolon}
 use Rattle.flp_lang.proofs.Moves.{fails}
 use Rattle.flp_lang.proofs.parser.Parser.sumvec.Goals as goal
 

@@ -58,7 +58,7 @@ pub enum Counted {
 
 impl From<AllocError> for LangFault {
     ghost use Rattle.std.specs.Prelude.{◌≡◌};
-    ghost use Rattle.flp_lang.specs.declared.fault.LangFault.TheVariants.{Memory};
+    ghost use Rattle.flp_syntax.specs.declared.fault.LangFault.TheVariants.{Memory};
 
     ghost from_gives = { λ _ fault. fault ≡ Memory };
 
@@ -69,7 +69,7 @@ impl From<AllocError> for LangFault {
 
 impl<T: Drop> From<AllocFailed<T>> for LangFault {
     ghost use Rattle.std.specs.Prelude.{◌≡◌};
-    ghost use Rattle.flp_lang.specs.declared.fault.LangFault.TheVariants.{Memory};
+    ghost use Rattle.flp_syntax.specs.declared.fault.LangFault.TheVariants.{Memory};
 
     ghost from_gives = { λ _ fault. fault ≡ Memory };
 

@@ -1,8 +1,8 @@
 -- Circuits that are well formed: no list in them is empty, each name is one that a text can have, and each place leaves room for one more.
 use Rattle.std.specs.Prelude.{ℕ, ◌<◌, ◌≡◌, Bool, true, ◌&&◌, List, [], ◌∷◌, Option, None, Some}
-use Rattle.flp_lang.specs.declared.token.Mark.{Mark}
-use Rattle.flp_lang.specs.Tokens.{is_letter, is_name_byte, reserved}
-use Rattle.flp_lang.specs.Tree.{Index, index_number, index_var, index_add, index_mul, IndexItems, no_index_items, index_item_on, Indices, no_indices, index_on, Tree, number, var, joint, meas, meas_or_zero, sum, call, add, mul, pow, Items, no_items, item_on, Trees, no_trees, tree_on, Argument, one, each_arg, Arguments, no_args, arg_on, Statement, check, out, each, Statements, no_stmts, stmt_on, Kind, mul_kind, poly_kind, psum_kind, Declaration, Program, Text, standard, program}
+use Rattle.flp_syntax.specs.declared.token.Mark.{Mark}
+use Rattle.flp_syntax.specs.Tokens.{is_letter, is_name_byte, reserved}
+use Rattle.flp_syntax.specs.Tree.{Index, index_number, index_var, index_add, index_mul, IndexItems, no_index_items, index_item_on, Indices, no_indices, index_on, Tree, number, var, joint, meas, meas_or_zero, sum, call, add, mul, pow, Items, no_items, item_on, Trees, no_trees, tree_on, Argument, one, each_arg, Arguments, no_args, arg_on, Statement, check, out, each, Statements, no_stmts, stmt_on, Kind, mul_kind, poly_kind, psum_kind, Declaration, Program, Text, standard, program}
 
 -- letters, digits and `_` alone
 abbrev pub are_name_bytes : List ℕ → Bool

@@ -1,8 +1,8 @@
 -- The syntax trees of circuit text as plain data, from their parts up: what `Body`, `Stmt`, `Expr` and `Idx` hold, without where it lies in memory.
 -- Every node has the number of the token that begins it.
 use Rattle.std.specs.Prelude.{ℕ, Bool, true, false, List, [], ◌∷◌, Option, None, Some}
-use Rattle.flp_lang.specs.declared.syntax.Coef.{Coef}
-use Rattle.flp_lang.specs.declared.syntax.Params.{Params}
+use Rattle.flp_syntax.specs.declared.syntax.Coef.{Coef}
+use Rattle.flp_syntax.specs.declared.syntax.Params.{Params}
 
 -- indices: bounds of loops, places in `meas` and `joint`, exponents
 mutual

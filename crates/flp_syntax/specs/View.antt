@@ -3,32 +3,32 @@ use Rattle.std.specs.Prelude.{ℕ, Bool, List, map, ◌≡◌}
 use Rattle.std.proofs.Common.{sym, ◌∙◌, ap}
 use Rattle.std.specs.declared.boxed.Box.{Box}
 use Rattle.std.specs.declared.alloc.Global.{Global}
-use Rattle.flp_lang.specs.Tree.{Index, index_number, index_var, index_add, index_mul, index_items, indices, Tree, number, var, joint, meas, meas_or_zero, sum, call, add, mul, pow, items, trees, Argument, one, each_arg, arguments, Statement, check, out, each, statements, Kind, mul_kind, poly_kind, psum_kind, Declaration, Program, Text, standard, program}
-use Rattle.flp_lang.specs.declared.syntax.Coef.{Coef}
-use Rattle.flp_lang.specs.declared.syntax.Idx.{Idx, fold-Idx, fold-roll-Idx}
-use Rattle.flp_lang.specs.declared.syntax.Idx.TheOpen as idx_open
-use Rattle.flp_lang.specs.declared.syntax.Idx.TheOpen.{Idx-F, IdxItem-F}
-use Rattle.flp_lang.specs.declared.syntax.Idx.TheVariants as idx
-use Rattle.flp_lang.specs.declared.syntax.IdxItem.{IdxItem, fold-IdxItem, fold-roll-IdxItem, roll-IdxItem}
-use Rattle.flp_lang.specs.declared.syntax.Arg.{Arg, fold-Arg, fold-roll-Arg}
-use Rattle.flp_lang.specs.declared.syntax.Arg.TheOpen as expr_open
-use Rattle.flp_lang.specs.declared.syntax.Arg.TheOpen.{Arg-F, Expr-F, Item-F}
-use Rattle.flp_lang.specs.declared.syntax.Arg.TheVariants as arg
-use Rattle.flp_lang.specs.declared.syntax.Expr.{Expr, fold-Expr, fold-roll-Expr}
-use Rattle.flp_lang.specs.declared.syntax.Expr.TheVariants as expr
-use Rattle.flp_lang.specs.declared.syntax.Item.{Item, fold-Item, fold-roll-Item, roll-Item}
-use Rattle.flp_lang.specs.declared.syntax.Stmt.{Stmt, fold-Stmt, fold-roll-Stmt}
-use Rattle.flp_lang.specs.declared.syntax.Stmt.TheOpen as stmt_open
-use Rattle.flp_lang.specs.declared.syntax.Stmt.TheOpen.{Stmt-F}
-use Rattle.flp_lang.specs.declared.syntax.Stmt.TheVariants as stmt
-use Rattle.flp_lang.specs.declared.syntax.KindText.{KindText, fold-KindText, fold-roll-KindText}
-use Rattle.flp_lang.specs.declared.syntax.KindText.TheOpen as kind_open
-use Rattle.flp_lang.specs.declared.syntax.KindText.TheOpen.{KindText-F}
-use Rattle.flp_lang.specs.declared.syntax.KindText.TheVariants as kind
-use Rattle.flp_lang.specs.declared.syntax.Decl.{Decl}
-use Rattle.flp_lang.specs.declared.syntax.Body.{Body}
-use Rattle.flp_lang.specs.declared.syntax.Circuit.{Circuit}
-use Rattle.flp_lang.specs.declared.syntax.Circuit.TheVariants as circuit
+use Rattle.flp_syntax.specs.Tree.{Index, index_number, index_var, index_add, index_mul, index_items, indices, Tree, number, var, joint, meas, meas_or_zero, sum, call, add, mul, pow, items, trees, Argument, one, each_arg, arguments, Statement, check, out, each, statements, Kind, mul_kind, poly_kind, psum_kind, Declaration, Program, Text, standard, program}
+use Rattle.flp_syntax.specs.declared.syntax.Coef.{Coef}
+use Rattle.flp_syntax.specs.declared.syntax.Idx.{Idx, fold-Idx, fold-roll-Idx}
+use Rattle.flp_syntax.specs.declared.syntax.Idx.TheOpen as idx_open
+use Rattle.flp_syntax.specs.declared.syntax.Idx.TheOpen.{Idx-F, IdxItem-F}
+use Rattle.flp_syntax.specs.declared.syntax.Idx.TheVariants as idx
+use Rattle.flp_syntax.specs.declared.syntax.IdxItem.{IdxItem, fold-IdxItem, fold-roll-IdxItem, roll-IdxItem}
+use Rattle.flp_syntax.specs.declared.syntax.Arg.{Arg, fold-Arg, fold-roll-Arg}
+use Rattle.flp_syntax.specs.declared.syntax.Arg.TheOpen as expr_open
+use Rattle.flp_syntax.specs.declared.syntax.Arg.TheOpen.{Arg-F, Expr-F, Item-F}
+use Rattle.flp_syntax.specs.declared.syntax.Arg.TheVariants as arg
+use Rattle.flp_syntax.specs.declared.syntax.Expr.{Expr, fold-Expr, fold-roll-Expr}
+use Rattle.flp_syntax.specs.declared.syntax.Expr.TheVariants as expr
+use Rattle.flp_syntax.specs.declared.syntax.Item.{Item, fold-Item, fold-roll-Item, roll-Item}
+use Rattle.flp_syntax.specs.declared.syntax.Stmt.{Stmt, fold-Stmt, fold-roll-Stmt}
+use Rattle.flp_syntax.specs.declared.syntax.Stmt.TheOpen as stmt_open
+use Rattle.flp_syntax.specs.declared.syntax.Stmt.TheOpen.{Stmt-F}
+use Rattle.flp_syntax.specs.declared.syntax.Stmt.TheVariants as stmt
+use Rattle.flp_syntax.specs.declared.syntax.KindText.{KindText, fold-KindText, fold-roll-KindText}
+use Rattle.flp_syntax.specs.declared.syntax.KindText.TheOpen as kind_open
+use Rattle.flp_syntax.specs.declared.syntax.KindText.TheOpen.{KindText-F}
+use Rattle.flp_syntax.specs.declared.syntax.KindText.TheVariants as kind
+use Rattle.flp_syntax.specs.declared.syntax.Decl.{Decl}
+use Rattle.flp_syntax.specs.declared.syntax.Body.{Body}
+use Rattle.flp_syntax.specs.declared.syntax.Circuit.{Circuit}
+use Rattle.flp_syntax.specs.declared.syntax.Circuit.TheVariants as circuit
 
 -- one level of an index
 abbrev pub idx_step : Idx-F Index (Bool × Index) → Index
