@@ -113,7 +113,7 @@ after_call w b gadget f f' df n k h =
     ))
     (cases_lt k (length c))
 
-decided : (w : Reading) (b : ℕ → Call → ℕ) → Passes w (answering w b) (Decided w.answer b)
+decided : (w : Reading) (b : ℕ → Call → ℕ) → Passes w (answering w b) (Decided w.answer b) (λ _ _ _. Unit {0})
 unfolding Decided
 decided w b = record {
   alike = λ A value n k h. (refl, λ all. refl);
@@ -128,14 +128,15 @@ decided w b = record {
     λ all. ap (λ (z : Meant ℕ). let r : Meant ℕ = record { value = w.unit * z.value; calls = z.calls } in r) ((h n k agree).1 all),
   );
   in_order = in_order w.answer b;
-  after_call = after_call w b;
+  after_call = λ gadget f g some. after_call w b gadget f g;
 }
 
 whole_circuit : (body : Program) (w : Reading) (b : ℕ → Call → ℕ) (k : ℕ) → AgreeOn w.answer b 0 (take k (calls_of body w))
     → (take (suc k) (calls_of body (answering w b)) ≡ take (suc k) (calls_of body w))
     × (length (calls_of body w) ≤ k → circuit_of body (answering w b) ≡ circuit_of body w)
 unfolding Decided
-whole_circuit body w b k h = circuit_passes w (answering w b) (Decided w.answer b) (decided w b) body 0 k h
+whole_circuit body w b k h =
+    circuit_passes body.gadgets w (answering w b) (Decided w.answer b) (λ _ _ _. Unit {0}) (decided w b) (λ _ _ _. tt) body.stmts 0 k h
 
 pub answers_decide : AnswersDecide
 answers_decide body w b h =
