@@ -18,3 +18,5 @@ pub mod PartLemmas
 pub mod ValueLemmas
 -- the honest proof
 pub mod Honest
+-- verifiers of shares
+pub mod Verifiers
