@@ -149,7 +149,7 @@ earlier_answers_decide body w b k h =
     subst (λ j. take j (calls_of body (answering w b)) ≡ take j (calls_of body w)) next (whole_circuit body w b k h).0
 
 -- answers by their places, against values of the calls
-agree-places : (value : Call → ℕ) (answers : List ℕ) (n : ℕ) (calls : List Call)
+pub agree-places : (value : Call → ℕ) (answers : List ℕ) (n : ℕ) (calls : List Call)
     → ((k : ℕ) → k < length calls → slice_index answers (n + k) ≡ slice_index (map value calls) k)
     → AgreeOn (λ m call. value call) (λ m call. slice_index answers m) n calls
 agree-places value answers n [] h = tt
@@ -161,6 +161,10 @@ agree-places value answers n (call ∷ calls) h =
           let same : n + 1 + k ≡ n + suc k = omega arith in
           ap (λ j. slice_index answers j) same ∙ h (suc k) (omega arith)),
     )
+
+pub agree-sym : (a b : ℕ → Call → ℕ) (n : ℕ) (calls : List Call) → AgreeOn a b n calls → AgreeOn b a n calls
+agree-sym a b n [] h = tt
+agree-sym a b n (call ∷ calls) h = (sym h.0, agree-sym a b (n + 1) calls h.1)
 
 value_in : Program → Call → ℕ
 value_in body call = value_of (kind_of body call.gadget) call.inputs

@@ -16,6 +16,9 @@ pub mod PowerLemmas
 pub mod PartLemmas
 -- what the value of a gadget depends on
 pub mod ValueLemmas
+-- wires, and decisions
+pub mod WireLemmas
+pub mod Decisions
 -- the honest proof
 pub mod Honest
 -- verifiers of shares

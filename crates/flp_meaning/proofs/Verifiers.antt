@@ -1,20 +1,18 @@
 -- The verifier of a sum of shares is the sum of their verifiers, since everything between is linear: parts of proofs, values of polynomials, wires.
-use Rattle.std.proofs.Common.{ℕ, zero, suc, min, ◌≡◌, ◌+◌, ◌-◌, ◌*◌, ◌%◌, ◌^◌, ◌<◌, ◌≤◌, Bool, true, false, List, [], ◌∷◌, ◌++◌, length, map, take, drop, get_or, refl, ap, ap₂, sym, subst, ◌∙◌, arith, ⊎_elim, length-append, length-take}
+use Rattle.std.proofs.Common.{ℕ, zero, suc, min, ◌≡◌, ◌+◌, ◌*◌, ◌%◌, ◌<◌, ◌≤◌, Bool, true, false, List, [], ◌∷◌, ◌++◌, length, map, take, drop, refl, ap, ap₂, sym, subst, ◌∙◌, arith, ⊎_elim, length-append, length-take}
 use Rattle.std.specs.List.{All, range_with_len, flat_map, sum_by}
 use Rattle.std.specs.Prelude.{slice_index, nat_lt, if◌then◌else◌}
 use Rattle.std.proofs.lemmas.Bool.{cases_lt}
-use Rattle.std.proofs.lemmas.List.{get_or_past, get_or-take, get_or-drop, get_or-map, length-map, ext_get_or}
-use Rattle.std.proofs.lemmas.List.Elements.{All-append, All-cons, All-map}
+use Rattle.std.proofs.lemmas.List.{get_or_past, get_or-take, get_or-drop, length-map, ext_get_or}
 use Rattle.std.proofs.lemmas.List.FromFn.{length-map-range_with_len, get_or-map-range_with_len}
 use Rattle.std.proofs.lemmas.List.Sums.{sum_by-cons}
-use Rattle.flp_field.specs.Word.{modulus, IsWord, AreWords, word_sum, word_power, word_product}
+use Rattle.flp_field.specs.Word.{modulus, word_sum, word_power, word_product}
 use Rattle.flp_field.specs.Domain.{alpha}
 use Rattle.flp_field.specs.Sums.{sum_at, sum_of_lists}
-use Rattle.flp_field.proofs.Congruence.{Same, same_add, same_mul, same_mod, mod_word}
+use Rattle.flp_field.proofs.Congruence.{same_add, same_mod, mod_word}
 use Rattle.flp_poly.specs.Polynomial.{value_at}
 use Rattle.flp_poly.specs.Interpolation.{interpolated, inverse_root, inverse_size}
 use Rattle.flp_poly.proofs.Horner.{horner, value_at-horner}
-use Rattle.flp_poly.proofs.Interpolation.{length-interpolated}
 use Rattle.flp_syntax.specs.Tree.{Program}
 use Rattle.flp_meaning.specs.Meaning.{Call}
 use Rattle.flp_meaning.specs.Circuit.{calls_of, checks_of}
@@ -22,7 +20,7 @@ use Rattle.flp_meaning.specs.Gadgets.{gadgets_of, arity_of, size_of, calls_to, c
 use Rattle.flp_meaning.specs.Lengths.{start_of, coefficient_count, proof_part, verifier_part, lengths_of}
 use Rattle.flp_meaning.specs.Wires.{filled, inputs_at, wire_values, wires_of}
 use Rattle.flp_meaning.specs.Proof.{words_at, seeds_in, polynomial_in, answer_in, answers_in, proved}
-use Rattle.flp_meaning.specs.Verifier.{point_of, combined, check_of, verifier_of, verifier_words}
+use Rattle.flp_meaning.specs.Verifier.{point_of, combined, check_of, verifier_of}
 use Rattle.flp_meaning.specs.Linear.{IsLinear}
 use Rattle.flp_meaning.specs.LinearLaws.{IsSumOf, Share, ShareIsSum, ReportShare, ReportIsSum, verifier_on, VerifiersAddUp, VerifiersHaveLength, sum_of_shares, HasSize, VerifiersSumUp}
 use Rattle.flp_meaning.proofs.Sums.{Adds, WordsAdd, no_words, word_on, CallsAdd, words-append, circuit_adds, is_sum-words, calls_to-adds, inputs_at-adds, adds-sum, adds-scaled, adds-word, word-adds}
@@ -44,14 +42,14 @@ sum-numbered : (f g h : ℕ → ℕ) (n : ℕ) → ((k : ℕ) → k < n → f k 
 sum-numbered f g h n same k =
     ⊎_elim
     (λ (low : k < n).
-        get_or-map-range_with_len f 0 n k k 0 low (omega arith)
-        ∙ same k low
-        ∙ sym (ap₂ word_sum (get_or-map-range_with_len g 0 n k k 0 low (omega arith)) (get_or-map-range_with_len h 0 n k k 0 low (omega arith))))
+    get_or-map-range_with_len f 0 n k k 0 low (omega arith)
+    ∙ same k low
+    ∙ sym (ap₂ word_sum (get_or-map-range_with_len g 0 n k k 0 low (omega arith)) (get_or-map-range_with_len h 0 n k k 0 low (omega arith))))
     (λ (high : n ≤ k).
-        sum-past (map f (range_with_len 0 n)) (map g (range_with_len 0 n)) (map h (range_with_len 0 n)) k
-        (subst (λ m. m ≤ k) (sym (length-map-range_with_len f 0 n)) high)
-        (subst (λ m. m ≤ k) (sym (length-map-range_with_len g 0 n)) high)
-        (subst (λ m. m ≤ k) (sym (length-map-range_with_len h 0 n)) high))
+    sum-past (map f (range_with_len 0 n)) (map g (range_with_len 0 n)) (map h (range_with_len 0 n)) k
+    (subst (λ m. m ≤ k) (sym (length-map-range_with_len f 0 n)) high)
+    (subst (λ m. m ≤ k) (sym (length-map-range_with_len g 0 n)) high)
+    (subst (λ m. m ≤ k) (sym (length-map-range_with_len h 0 n)) high))
     (cases_lt k n)
 
 words-numbered : (f g h : ℕ → ℕ) (a n : ℕ) → ((k : ℕ) → f k ≡ word_sum (g k) (h k))
@@ -68,13 +66,13 @@ sum-words_at : (start count : ℕ) (a b c : List ℕ) → IsSumOf a b c → IsSu
 sum-words_at start count a b c sum k =
     ⊎_elim
     (λ (low : k < count).
-        let at : (l : List ℕ) → slice_index (words_at start count l) k ≡ slice_index l (start + k) =
-        λ l. get_or-take count (drop start l) k 0 low ∙ get_or-drop start l k 0 in
-        at a ∙ sum (start + k) ∙ sym (ap₂ word_sum (at b) (at c)))
+    let at : (l : List ℕ) → slice_index (words_at start count l) k ≡ slice_index l (start + k) =
+    λ l. get_or-take count (drop start l) k 0 low ∙ get_or-drop start l k 0 in
+    at a ∙ sum (start + k) ∙ sym (ap₂ word_sum (at b) (at c)))
     (λ (high : count ≤ k).
-        let short : (l : List ℕ) → length (words_at start count l) ≤ k =
-        λ l. let cut : length (take count (drop start l)) ≡ min count (length (drop start l)) = length-take count (drop start l) in omega arith in
-        sum-past (words_at start count a) (words_at start count b) (words_at start count c) k (short a) (short b) (short c))
+    let short : (l : List ℕ) → length (words_at start count l) ≤ k =
+    λ l. let cut : length (take count (drop start l)) ≡ min count (length (drop start l)) = length-take count (drop start l) in omega arith in
+    sum-past (words_at start count a) (words_at start count b) (words_at start count c) k (short a) (short b) (short c))
     (cases_lt k count)
 
 map-map : {A B C : Type 0} (f : A → B) (g : B → C) (xs : List A) → map g (map f xs) ≡ map (λ x. g (f x)) xs
@@ -131,11 +129,11 @@ interpolated-adds n p q r np nq nr sum =
     (λ k. word_product (inverse_size n) (value_at q (word_power (inverse_root n) k)))
     (λ k. word_product (inverse_size n) (value_at r (word_power (inverse_root n) k))) n
     (λ k low.
-        word-adds _ _ _
-        (adds-scaled (inverse_size n) _ _ _ (adds-word _ _ _ (value-adds p q r (word_power (inverse_root n) k) sum)))) in
+    word-adds _ _ _
+    (adds-scaled (inverse_size n) _ _ _ (adds-word _ _ _ (value-adds p q r (word_power (inverse_root n) k) sum)))) in
     subst (λ m. IsSumOf (made m p) (interpolated q) (interpolated r)) (sym np)
     (subst (λ m. IsSumOf (made n p) (made m q) (interpolated r)) (sym nq)
-     (subst (λ m. IsSumOf (made n p) (made n q) (made m r)) (sym nr) alike))
+    (subst (λ m. IsSumOf (made n p) (made n q) (made m r)) (sym nr) alike))
 
 -- ---- a query on three shares
 
@@ -156,7 +154,7 @@ module _ (body : Program) (words query : List ℕ) (whole left right : ReportSha
     words = sums.words;
     unit = sums.unit;
     answers = sum-numbered (answer_in body whole.proof) (answer_in body left.proof) (answer_in body right.proof) (call_count body)
-    (λ k low.
+        (λ k low.
         value-adds (polynomial_in body whole.proof (call_gadget body k)) (polynomial_in body left.proof (call_gadget body k)) (polynomial_in body right.proof (call_gadget body k))
         (word_power (alpha (size_of body (call_gadget body k))) (call_number body k)) (polynomials (call_gadget body k)));
   }
@@ -190,7 +188,7 @@ module _ (body : Program) (words query : List ℕ) (whole left right : ReportSha
       interpolated-adds n (filled n (given whole gadget input)) (filled n (given left gadget input)) (filled n (given right gadget input))
       (long (given whole gadget input)) (long (given left gadget input)) (long (given right gadget input))
       (sum-numbered (λ k. slice_index (given whole gadget input) k) (λ k. slice_index (given left gadget input) k) (λ k. slice_index (given right gadget input) k) n
-       (λ k low. given_adds gadget input k))
+      (λ k low. given_adds gadget input k))
 
   verifier_part_of : ReportShare → ℕ → List ℕ
   verifier_part_of share gadget = verifier_of body share.x words share.proof query share.unit gadget
@@ -214,11 +212,11 @@ module _ (body : Program) (words query : List ℕ) (whole left right : ReportSha
       let made : WordsAdd (by_number whole gadget) (by_number left gadget) (by_number right gadget) =
       words-append
       (words-numbered (λ input. value_at (wire whole gadget input) t) (λ input. value_at (wire left gadget input) t) (λ input. value_at (wire right gadget input) t) 0 (arity_of body gadget)
-       (λ input. value-adds (wire whole gadget input) (wire left gadget input) (wire right gadget input) t (wire_adds gadget input)))
+      (λ input. value-adds (wire whole gadget input) (wire left gadget input) (wire right gadget input) t (wire_adds gadget input)))
       (word_on (value-adds (polynomial_in body whole.proof gadget) (polynomial_in body left.proof gadget) (polynomial_in body right.proof gadget) t (polynomials gadget)) no_words) in
       subst (λ l. WordsAdd l (verifier_part_of left gadget) (verifier_part_of right gadget)) (sym (by_number-is whole gadget))
       (subst (λ l. WordsAdd (by_number whole gadget) l (verifier_part_of right gadget)) (sym (by_number-is left gadget))
-       (subst (λ l. WordsAdd (by_number whole gadget) (by_number left gadget) l) (sym (by_number-is right gadget)) made))
+      (subst (λ l. WordsAdd (by_number whole gadget) (by_number left gadget) l) (sym (by_number-is right gadget)) made))
 
   combined-adds : {a b c : List ℕ} (q : List ℕ) → WordsAdd a b c → Adds (combined a q) (combined b q) (combined c q)
   combined-adds q no_words = refl
@@ -228,11 +226,11 @@ module _ (body : Program) (words query : List ℕ) (whole left right : ReportSha
   check-adds : {a b c : List ℕ} → WordsAdd a b c → check_of body a query ≡ word_sum (check_of body b query) (check_of body c query)
   check-adds {a} {b} {c} h = either (nat_lt 1 (check_count body))
     where
-    either : (test : Bool)
-        → (if test then combined a query % modulus else slice_index a 0)
-        ≡ word_sum (if test then combined b query % modulus else slice_index b 0) (if test then combined c query % modulus else slice_index c 0)
-    either true = word-adds _ _ _ (combined-adds query h)
-    either false = is_sum-words h 0
+      either : (test : Bool)
+          → (if test then combined a query % modulus else slice_index a 0)
+          ≡ word_sum (if test then combined b query % modulus else slice_index b 0) (if test then combined c query % modulus else slice_index c 0)
+      either true = word-adds _ _ _ (combined-adds query h)
+      either false = is_sum-words h 0
 
   verifier_adds : WordsAdd (verifier_on body words query whole) (verifier_on body words query left) (verifier_on body words query right)
   unfolding verifier_part_of
@@ -251,11 +249,11 @@ verifiers_have_length body words query share =
     let long : length (flat_map (verifier_of body share.x words share.proof query share.unit) (gadgets_of body)) ≡ sum_by (verifier_part body) (gadgets_of body) =
     length-parts (verifier_of body share.x words share.proof query share.unit) (verifier_part body) 0 (length body.gadgets)
     (λ gadget low.
-        let wires : List (List ℕ) = wires_of body (calls_of body (proved body share.x words share.proof share.unit)) (seeds_in body share.proof gadget) gadget in
-        length-append (map (λ wire. value_at wire (point_of body query gadget)) wires) _
-        ∙ ap (λ k. k + 1)
-          (length-map wires (λ wire. value_at wire (point_of body query gadget))
-           ∙ length-map-range_with_len (λ input. interpolated (wire_values body (calls_of body (proved body share.x words share.proof share.unit)) (seeds_in body share.proof gadget) gadget input)) 0 (arity_of body gadget))) in
+    let wires : List (List ℕ) = wires_of body (calls_of body (proved body share.x words share.proof share.unit)) (seeds_in body share.proof gadget) gadget in
+    length-append (map (λ wire. value_at wire (point_of body query gadget)) wires) _
+    ∙ ap (λ k. k + 1)
+    (length-map wires (λ wire. value_at wire (point_of body query gadget))
+    ∙ length-map-range_with_len (λ input. interpolated (wire_values body (calls_of body (proved body share.x words share.proof share.unit)) (seeds_in body share.proof gadget) gadget input)) 0 (arity_of body gadget))) in
     omega arith
 
 length-sum : (n : ℕ) (lists : List (List ℕ)) → length (sum_of_lists n lists) ≡ n
@@ -274,16 +272,16 @@ sum-first : (n : ℕ) (first : List ℕ) (lists : List (List ℕ)) → length fi
 sum-first n first lists size k =
     ⊎_elim
     (λ (low : k < n).
-        let rest : ℕ = sum_by (λ words. slice_index words k) lists in
-        get_or-map-range_with_len (sum_at (first ∷ lists)) 0 n k k 0 low (omega arith)
-        ∙ ap (λ (s : ℕ). s % modulus) (sum_by-cons (λ words. slice_index words k) first lists)
-        ∙ same_add (slice_index first k) (slice_index first k) rest (rest % modulus) refl (sym (same_mod rest))
-        ∙ ap (λ s. word_sum (slice_index first k) s) (sym (get_or-map-range_with_len (sum_at lists) 0 n k k 0 low (omega arith))))
+    let rest : ℕ = sum_by (λ words. slice_index words k) lists in
+    get_or-map-range_with_len (sum_at (first ∷ lists)) 0 n k k 0 low (omega arith)
+    ∙ ap (λ (s : ℕ). s % modulus) (sum_by-cons (λ words. slice_index words k) first lists)
+    ∙ same_add (slice_index first k) (slice_index first k) rest (rest % modulus) refl (sym (same_mod rest))
+    ∙ ap (λ s. word_sum (slice_index first k) s) (sym (get_or-map-range_with_len (sum_at lists) 0 n k k 0 low (omega arith))))
     (λ (high : n ≤ k).
-        sum-past (sum_of_lists n (first ∷ lists)) first (sum_of_lists n lists) k
-        (subst (λ m. m ≤ k) (sym (length-sum n (first ∷ lists))) high)
-        (subst (λ m. m ≤ k) (sym size) high)
-        (subst (λ m. m ≤ k) (sym (length-sum n lists)) high))
+    sum-past (sum_of_lists n (first ∷ lists)) first (sum_of_lists n lists) k
+    (subst (λ m. m ≤ k) (sym (length-sum n (first ∷ lists))) high)
+    (subst (λ m. m ≤ k) (sym size) high)
+    (subst (λ m. m ≤ k) (sym (length-sum n lists)) high))
     (cases_lt k n)
 
 -- a word that is twice itself is 0
@@ -315,7 +313,7 @@ verifiers-sum body words query n m (share ∷ shares) linear sizes k =
     let L : ℕ = (lengths_of body).verifier in
     verifiers_add_up body words query whole share rest linear sums k
     ∙ ap (λ v. word_sum (slice_index (verifier_on body words query share) k) v)
-      (verifiers-sum body words query n m shares linear (λ j d low. sizes (suc j) d (omega arith)) k)
+    (verifiers-sum body words query n m shares linear (λ j d low. sizes (suc j) d (omega arith)) k)
     ∙ sym (sum-first L (verifier_on body words query share) (map (verifier_on body words query) shares) (verifiers_have_length body words query share) k)
 
 pub verifiers_sum_up : VerifiersSumUp

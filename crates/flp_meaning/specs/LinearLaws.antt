@@ -104,4 +104,4 @@ VerifiersSumUp =
     (body : Program) (joint query : List ℕ) (n m : ℕ) (shares : List ReportShare) → IsLinear body
     → All (HasSize n m) shares
     → verifier_on body joint query (sum_of_shares n m shares)
-      ≡ sum_of_lists (lengths_of body).verifier (map (verifier_on body joint query) shares)
+    ≡ sum_of_lists (lengths_of body).verifier (map (verifier_on body joint query) shares)

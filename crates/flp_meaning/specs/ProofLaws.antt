@@ -1,5 +1,5 @@
 -- The laws of proofs, from the numbers of calls and the sizes of domains up to the honest proof, which is accepted.
-use Rattle.std.specs.Prelude.{ℕ, ◌≡◌, ◌+◌, ◌-◌, ◌^◌, ◌<◌, ◌≤◌, Bool, true, false, List, ◌∷◌, length, get_or, slice_index, Option, None, Some}
+use Rattle.std.specs.Prelude.{ℕ, ◌≡◌, ◌+◌, ◌-◌, ◌^◌, ◌<◌, ◌≤◌, ◌↔◌, Bool, true, false, List, ◌∷◌, length, get_or, slice_index, Option, None, Some}
 use Rattle.flp_field.specs.Word.{AreWords, word_power}
 use Rattle.flp_field.specs.Domain.{alpha}
 use Rattle.flp_poly.specs.Polynomial.{value_at}
@@ -7,13 +7,13 @@ use Rattle.flp_poly.specs.Interpolation.{interpolated}
 use Rattle.flp_gadget.specs.KindTree.{formula_of, IsKind}
 use Rattle.flp_syntax.specs.Tree.{Program}
 use Rattle.flp_meaning.specs.Meaning.{Call, Reading}
-use Rattle.flp_meaning.specs.Circuit.{circuit_of, calls_of, kind_of, direct, IsValid}
+use Rattle.flp_meaning.specs.Circuit.{circuit_of, checks_of, calls_of, kind_of, direct, IsValid}
 use Rattle.flp_meaning.specs.Gadgets.{first_where, ceil_log, call_count, calls_made, call_gadget, call_number, calls_to, log_of, size_of}
 use Rattle.flp_meaning.specs.Lengths.{lengths_of}
 use Rattle.flp_meaning.specs.MeaningLaws.{call_values}
 use Rattle.flp_meaning.specs.Wires.{inputs_at, wire_values, wires_of}
-use Rattle.flp_meaning.specs.Proof.{seeds_in, polynomial_in, seeds_for, honest_proof, answers_in, proved}
-use Rattle.flp_meaning.specs.Verifier.{gadget_in_domain, accepts}
+use Rattle.flp_meaning.specs.Proof.{seeds_in, polynomial_in, seeds_for, honest_proof, answers_in, proved, formula_in, IsTrueOf}
+use Rattle.flp_meaning.specs.Verifier.{gadget_in_domain, accepts, point_of, check_of, verifier_words, decides}
 
 -- the first of so many numbers from `start` on that passes a test, or that none does
 abbrev pub IsFirst : (ℕ → Bool) → (start count : ℕ) → Option ℕ → Type 0
@@ -106,3 +106,26 @@ abbrev pub HonestProofIsAccepted : Type 0
 HonestProofIsAccepted =
     (body : Program) (x joint seeds query : List ℕ) → IsBounded body → AreSeeds body seeds → IsValid body x joint
     → gadget_in_domain body query ≡ None → accepts body x joint (honest_proof body x joint seeds) query ≡ true
+
+-- ---- any proof
+
+-- the verifier of a proof is taken where its check is 0 and, at the point of each gadget, the formula at the wires has the value of the proof's polynomial
+pub record Holds (body : Program) (x joint proof query : List ℕ) (unit : ℕ) : Type 0 where
+  pub check : check_of body (checks_of body (proved body x joint proof unit)) query ≡ 0
+  pub gadgets :
+      (gadget : ℕ) → gadget < length body.gadgets
+      → value_at (formula_in body x joint proof unit gadget) (point_of body query gadget)
+      ≡ value_at (polynomial_in body proof gadget) (point_of body query gadget)
+
+abbrev pub DecisionsMean : Type 0
+DecisionsMean =
+    (body : Program) (x joint proof query : List ℕ) (unit : ℕ)
+    → (decides body (verifier_words body x joint proof query unit) ≡ true) ↔ Holds body x joint proof query unit
+
+-- a proof that is true of each gadget answers each call by the gadget's value, so that the circuit, read with its answers, is the circuit in
+-- the direct reading
+abbrev pub TrueProofsAreDirect : Type 0
+TrueProofsAreDirect =
+    (body : Program) (x joint proof : List ℕ) → IsBounded body → AreWords proof
+    → ((gadget : ℕ) → gadget < length body.gadgets → IsTrueOf body x joint proof gadget)
+    → circuit_of body (proved body x joint proof 1) ≡ circuit_of body (direct body x joint)

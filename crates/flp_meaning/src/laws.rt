@@ -5,9 +5,10 @@ ghost use Rattle.flp_meaning.specs.MeaningLaws.{AnswersDecide, EarlierAnswersDec
 ghost use Rattle.flp_meaning.specs.MeaningLaws.{ChecksAreFixed, OutsAreFixed, AnsweredIsDirect, CallsAreFilled};
 ghost use Rattle.flp_meaning.specs.MeaningLaws.{TrueAnswersAreDirect, InputCountsAreFixed, CallsAreWell};
 ghost use Rattle.flp_meaning.specs.LinearLaws.{ChecksAddUp, InputsAddUp, WireInputsAddUp};
+ghost use Rattle.flp_meaning.specs.LinearLaws.{VerifiersHaveLength, VerifiersAddUp, VerifiersSumUp};
 ghost use Rattle.flp_meaning.specs.ProofLaws.{FirstIsFound, LeastPower, CallsAreNumbered, DomainsHold, WiresRunThrough};
 ghost use Rattle.flp_meaning.specs.ProofLaws.{HonestProofHasLength, HonestProofHasParts, HonestProofAnswers};
-ghost use Rattle.flp_meaning.specs.ProofLaws.{HonestProofProves, HonestProofIsAccepted};
+ghost use Rattle.flp_meaning.specs.ProofLaws.{HonestProofProves, HonestProofIsAccepted, DecisionsMean, TrueProofsAreDirect};
 
 /// Two ways to answer that agree on the calls that are made give the same checks, outs and calls. If they
 /// agree on the first k calls, the calls up to the next one are the same.
@@ -41,6 +42,14 @@ pub fn shares_add_up()
     ensures checks { ChecksAddUp }
     ensures inputs { InputsAddUp }
     ensures wires { WireInputsAddUp }
+{}
+
+/// A verifier has the length that the circuit says. In a linear circuit the verifiers of shares, each made by
+/// the same query, sum up word by word to the verifier of the summed shares.
+pub fn verifiers_sum_up()
+    ensures length { VerifiersHaveLength }
+    ensures two { VerifiersAddUp }
+    ensures many { VerifiersSumUp }
 {}
 
 /// Under every reading each call is of a gadget of the circuit, and its inputs are words.
@@ -79,4 +88,16 @@ pub fn honest_proof()
 /// The honest proof of a valid encoding is accepted by each query none of whose points lies in a domain.
 pub fn honest_is_accepted()
     ensures { HonestProofIsAccepted }
+{}
+
+/// A verifier is taken exactly where its check is 0 and, at the point of each gadget, the formula at the wires
+/// has the value of the proof's polynomial.
+pub fn decisions()
+    ensures { DecisionsMean }
+{}
+
+/// Where a proof's polynomial for each gadget is the formula at the wires, which are those of the proof's own
+/// answers, the circuit, read with these answers, is the circuit in the direct reading.
+pub fn true_proofs()
+    ensures { TrueProofsAreDirect }
 {}
