@@ -50,6 +50,15 @@ head_fault letters base party bytes =
     ∷ ended base (text_end base bytes) (drop base bytes)
     ∷ [])
 
+-- where a head's reading stops: behind its first `base` bytes where these have a fault, or else behind the text
+abbrev pub stop_of : ℕ → ℕ → Option BatchFault → ℕ
+stop_of base text None = text
+stop_of base text (Some fault) = base
+
+-- the most bytes that a head takes from a source that has these left
+abbrev pub head_size : List ℕ → ℕ → Option ℕ → List ℕ → ℕ
+head_size letters base party bytes = stop_of base (text_end base bytes) (start_fault letters base party bytes)
+
 -- the numbers of a head are within their limits, and a party that is asked for has a share
 pub record IsStart (party : Option ℕ) (bytes : List ℕ) : Type 0 where
   pub least_shares : 2 ≤ number_at 12 bytes

@@ -4,7 +4,7 @@ ghost use Rattle.std.specs.Io.KnownBytes.{Consumes, IsAtEnd};
 ghost use Rattle.flp_io.specs.Faults.{Rose};
 ghost use Rattle.flp_io.specs.Reads.{ConsumesSome};
 ghost use Rattle.flp_report.specs.Fault.{IfBatch};
-ghost use Rattle.flp_report.specs.Reads.{ConsumesAtMost, EndedShort};
+ghost use Rattle.flp_report.specs.Reads.{ConsumesAtMost, ConsumesWithin, EndedShort};
 
 use crate::fault::{BatchFault, ReadFault};
 use crate::head::{number_at, read_head};
@@ -44,7 +44,7 @@ pub struct BatchReader<'a, S> {
 impl<'a, S: Source> BatchReader<'a, S> {
     ghost use Rattle.flp_report.specs.Shape.{bytes_of};
     ghost use Rattle.flp_report.specs.Batch.{IsHead, IsInLimits, batch_letters, large_fault, claims_fault};
-    ghost use Rattle.flp_report.specs.Head.{head_fault};
+    ghost use Rattle.flp_report.specs.Head.{head_fault, head_size};
     ghost use Rattle.flp_report.specs.Pieces.{fall_in};
     ghost use Rattle.flp_report.specs.Nonces.{nonce_bytes, nonce_count, nonces_in};
     ghost use Rattle.flp_report.specs.Segment.{shape_in, room_of, used_in, held_in};
@@ -67,8 +67,8 @@ impl<'a, S: Source> BatchReader<'a, S> {
         }
     }
 
-    /// Reads what stands in front of the old claims: the head of 32 bytes and the circuit text. The
-    /// text's room grows as its bytes come.
+    /// Reads what stands in front of the old claims: the head of 32 bytes and, where these have no
+    /// fault, the circuit text. The text's room grows as its bytes come.
     ///
     /// An error is the first fault of the file up to the end of its text; or else
     /// [`ReadFault::Failed`] or [`ReadFault::Memory`]. Where a party is given, more shares than its
@@ -87,7 +87,7 @@ impl<'a, S: Source> BatchReader<'a, S> {
 
         // At every outcome.
         ensures moved { ConsumesSome (S.left (source_of self.old)) (S.left (source_of self.new)) }
-        ensures few { ConsumesAtMost 65568 (S.left (source_of self.old)) (S.left (source_of self.new)) }
+        ensures few { ConsumesWithin (head_size batch_letters 32 party) (S.left (source_of self.old)) (S.left (source_of self.new)) }
         ensures failed { result ≡ Err ReadFault.Failed → Rose (S.faults (source_of self.old)) (S.faults (source_of self.new)) }
         ensures later { S.faults (source_of self.old) ≤ S.faults (source_of self.new) }
     {

@@ -4,8 +4,8 @@ ghost use Rattle.std.specs.Io.KnownBytes.{Consumes};
 ghost use Rattle.flp_io.specs.Faults.{Rose};
 ghost use Rattle.flp_io.specs.Reads.{ConsumesSome};
 ghost use Rattle.flp_report.specs.Fault.{IfBatch, first_of};
-ghost use Rattle.flp_report.specs.Head.{number_at, numbers_fault, start_fault, head_fault, IsStart};
-ghost use Rattle.flp_report.specs.Reads.{ConsumesAtMost};
+ghost use Rattle.flp_report.specs.Head.{number_at, numbers_fault, start_fault, head_fault, head_size, IsStart};
+ghost use Rattle.flp_report.specs.Reads.{ConsumesAtMost, ConsumesWithin};
 
 use crate::fault::{BatchFault, ReadFault};
 use crate::read::{read_growing, read_whole};
@@ -104,7 +104,7 @@ pub(crate) fn read_head<S: Source>(
 
     // At every outcome.
     ensures moved { ConsumesSome (S.left source.old) (S.left source.new) }
-    ensures few { ConsumesAtMost 65568 (S.left source.old) (S.left source.new) }
+    ensures few { ConsumesWithin (head_size letters.now (length head.old) party) (S.left source.old) (S.left source.new) }
     ensures failed { result ≡ Err ReadFault.Failed → Rose (S.faults source.old) (S.faults source.new) }
     ensures later { S.faults source.old ≤ S.faults source.new }
 {

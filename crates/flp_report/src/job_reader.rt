@@ -4,7 +4,7 @@ ghost use Rattle.std.specs.Io.KnownBytes.{Consumes, IsAtEnd};
 ghost use Rattle.flp_io.specs.Faults.{Rose};
 ghost use Rattle.flp_io.specs.Reads.{ConsumesSome};
 ghost use Rattle.flp_report.specs.Fault.{IfBatch};
-ghost use Rattle.flp_report.specs.Reads.{ConsumesAtMost, EndedShort};
+ghost use Rattle.flp_report.specs.Reads.{ConsumesAtMost, ConsumesWithin, EndedShort};
 
 use crate::fault::{BatchFault, ReadFault};
 use crate::head::{number_at, read_head};
@@ -43,7 +43,7 @@ pub struct JobReader<'a, S> {
 
 impl<'a, S: Source> JobReader<'a, S> {
     ghost use Rattle.flp_report.specs.Job.{IsJobHead, IsJobInLimits, job_letters, job_large_fault, job_bytes_of, word_fault};
-    ghost use Rattle.flp_report.specs.Head.{head_fault};
+    ghost use Rattle.flp_report.specs.Head.{head_fault, head_size};
     ghost use Rattle.flp_report.specs.Pieces.{pieces};
     ghost use Rattle.flp_report.specs.JobParts.{jobs_shape, jobs_count, jobs_bytes};
     ghost use Rattle.flp_report.specs.JobReader.{source_of, loan_of, SameLoan, place_of, shares_given, proofs_given, jobs_left, shape_given, IsShaped};
@@ -64,8 +64,8 @@ impl<'a, S: Source> JobReader<'a, S> {
         }
     }
 
-    /// Reads what stands in front of the jobs: the head of 28 bytes and the circuit text. The text's
-    /// room grows as its bytes come.
+    /// Reads what stands in front of the jobs: the head of 28 bytes and, where these have no fault,
+    /// the circuit text. The text's room grows as its bytes come.
     ///
     /// An error is the first fault of the file up to the end of its text; or else
     /// [`ReadFault::Failed`] or [`ReadFault::Memory`].
@@ -83,7 +83,7 @@ impl<'a, S: Source> JobReader<'a, S> {
 
         // At every outcome.
         ensures moved { ConsumesSome (S.left (source_of self.old)) (S.left (source_of self.new)) }
-        ensures few { ConsumesAtMost 65568 (S.left (source_of self.old)) (S.left (source_of self.new)) }
+        ensures few { ConsumesWithin (head_size job_letters 28 None) (S.left (source_of self.old)) (S.left (source_of self.new)) }
         ensures failed { result ≡ Err ReadFault.Failed → Rose (S.faults (source_of self.old)) (S.faults (source_of self.new)) }
         ensures later { S.faults (source_of self.old) ≤ S.faults (source_of self.new) }
     {
