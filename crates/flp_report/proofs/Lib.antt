@@ -11,6 +11,7 @@ pub mod BatchLemmas
 pub mod LawLemmas
 pub mod WriteLemmas
 pub mod BackLemmas
+pub mod ReportLemmas
 pub mod JobLemmas
 pub mod JobHeadLemmas
 pub mod PartFaultLemmas

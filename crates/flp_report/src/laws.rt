@@ -1,5 +1,5 @@
 //! What the answers of a reader's calls, one after the other, say of a whole file.
-ghost use Rattle.std.specs.Prelude.{◌≡◌, ◌+◌, ◌*◌, ◌≤◌, ◌<◌, ◌++◌, ℕ, List, Option, Some, None, length};
+ghost use Rattle.std.specs.Prelude.{◌≡◌, ◌+◌, ◌*◌, ◌≤◌, ◌<◌, ◌++◌, ℕ, List, Option, Some, None, map, length};
 ghost use Rattle.std.specs.List.{All, concat};
 ghost use Rattle.flp_report.specs.declared.fault.BatchFault.{BatchFault};
 ghost use Rattle.flp_report.specs.declared.fault.BatchFault.TheVariants.{Trailing};
@@ -12,8 +12,9 @@ ghost use Rattle.flp_report.specs.Job.{job_letters, job_bytes_of, job_large_faul
 ghost use Rattle.flp_report.specs.Head.{head_fault};
 ghost use Rattle.flp_report.specs.Reads.{EndedShort};
 ghost use Rattle.flp_report.specs.Pieces.{pieces, fall_in};
-ghost use Rattle.flp_report.specs.Batch.{batch_letters, large_fault, claims_fault, records_fault, fault_of, claims_of, header_of, whole_records, IsHead, IsFront};
+ghost use Rattle.flp_report.specs.Batch.{batch_letters, large_fault, claims_fault, records_fault, fault_of, whole_records, IsHead, IsFront};
 ghost use Rattle.flp_report.specs.Layout.{head_bytes, IsWritable};
+ghost use Rattle.flp_report.specs.Report.{Report, IsReport, record_written, IsBatch};
 
 /// The first fault of a file is what the first call that has one answers: `head`, `shape`,
 /// `claims`, and then `segment` or `end`; and a file is a batch where none has one.
@@ -54,15 +55,14 @@ pub fn read_records()
 {}
 
 /// A batch that is written within the limits is read again as the same batch: without a fault, with
-/// its header, its old claims and its records.
+/// its header, its old claims, and the nonce and the words of each report.
 pub fn reads_back()
-    ensures { (party : Option ℕ) (shape : Shape) (header : Header) (claims : List ℕ) (records : List (List ℕ))
+    ensures { (party : Option ℕ) (shape : Shape) (header : Header) (claims : List ℕ) (reports : List Report)
         → IsWritable party header → large_fault shape (32 + length header.text) header.claims header.reports ≡ None
         → length claims ≡ 16 * header.claims → fall_in (pieces 16 header.claims claims) ≡ None
-        → All (λ r. length r ≡ bytes_of shape) records → length records ≡ header.reports
-        → let bytes = (head_bytes header ++ claims) ++ concat records in
-        (fault_of party shape bytes ≡ None) × (header_of bytes ≡ header)
-        × (claims_of bytes ≡ pieces 16 header.claims claims) × (whole_records party shape bytes ≡ records) }
+        → All (IsReport shape) reports → length reports ≡ header.reports
+        → let bytes = (head_bytes header ++ claims) ++ concat (map record_written reports) in
+        IsBatch party shape bytes header (pieces 16 header.claims claims) reports }
 {}
 
 /// The first fault of a job file is what the first call that has one answers: `head`, `shape`, and
