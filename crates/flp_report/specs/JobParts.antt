@@ -3,6 +3,7 @@ use Rattle.std.specs.Prelude.{ℕ, ◌+◌, ◌-◌, ◌*◌, List, take, drop}
 use Rattle.flp_report.specs.declared.job_shape.JobShape.{JobShape}
 use Rattle.flp_report.specs.declared.job.Job.{Job}
 use Rattle.flp_report.specs.declared.job.Jobs.{Jobs}
+use Rattle.flp_report.specs.Pieces.{pieces}
 use Rattle.flp_report.specs.Job.{job_part_of, job_bytes_of}
 
 -- a job's bytes
@@ -54,3 +55,7 @@ jobs_bytes j = j.bytes.items
 -- the bytes of the job of this number
 abbrev pub job_in : Jobs → ℕ → List ℕ
 job_in j index = take (job_bytes_of j.shape) (drop (job_bytes_of j.shape * index) j.bytes.items)
+
+-- the jobs
+abbrev pub jobs_in : Jobs → List (List ℕ)
+jobs_in j = pieces (job_bytes_of j.shape) j.count j.bytes.items

@@ -44,8 +44,7 @@ pub struct JobReader<'a, S> {
 impl<'a, S: Source> JobReader<'a, S> {
     ghost use Rattle.flp_report.specs.Job.{IsJobHead, IsJobInLimits, job_letters, job_large_fault, job_bytes_of, word_fault};
     ghost use Rattle.flp_report.specs.Head.{head_fault, head_size};
-    ghost use Rattle.flp_report.specs.Pieces.{pieces};
-    ghost use Rattle.flp_report.specs.JobParts.{jobs_shape, jobs_count, jobs_bytes};
+    ghost use Rattle.flp_report.specs.JobParts.{jobs_shape, jobs_count, jobs_bytes, jobs_in};
     ghost use Rattle.flp_report.specs.JobReader.{source_of, loan_of, SameLoan, place_of, shares_given, proofs_given, jobs_left, shape_given, IsShaped};
 
     /// A reader whose file begins at the source's next byte. It reads nothing yet.
@@ -188,11 +187,11 @@ impl<'a, S: Source> JobReader<'a, S> {
         ensures same { SameLoan self.old self.new }
         ensures ended { OnOk result (IsAtEnd (S.left (source_of self.new))) }
         ensures none_read { OnOk result (Consumes (S.left (source_of self.old)) (S.left (source_of self.new)) []) }
-        ensures words { OnOk result (word_fault (jobs_shape jobs.now) 0 (pieces (job_bytes_of (jobs_shape jobs.now)) (jobs_count jobs.now) (jobs_bytes jobs.now)) ≡ None) }
+        ensures words { OnOk result (word_fault (jobs_shape jobs.now) 0 (jobs_in jobs.now) ≡ None) }
         ensures fault { OnErr result ((result ≡ Err ReadFault.Failed)
             ⊎ ((result ≡ Err (ReadFault.Batch BatchFault.Trailing)) × IfSome (S.left (source_of self.old)) (λ left. left ≢ []))
             ⊎ ((b : BatchFault) × (result ≡ Err (ReadFault.Batch b)) × IsAtEnd (S.left (source_of self.old))
-            × (word_fault (jobs_shape jobs.now) 0 (pieces (job_bytes_of (jobs_shape jobs.now)) (jobs_count jobs.now) (jobs_bytes jobs.now)) ≡ Some b))) }
+            × (word_fault (jobs_shape jobs.now) 0 (jobs_in jobs.now) ≡ Some b))) }
 
         // At every outcome.
         ensures moved { ConsumesSome (S.left (source_of self.old)) (S.left (source_of self.new)) }

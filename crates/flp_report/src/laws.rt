@@ -11,7 +11,13 @@ ghost use Rattle.flp_report.specs.Shape.{bytes_of};
 ghost use Rattle.flp_report.specs.Job.{job_letters, job_bytes_of, job_large_fault, jobs_fault, word_fault, job_fault_of, IsJobHead};
 ghost use Rattle.flp_report.specs.Head.{head_fault};
 ghost use Rattle.flp_report.specs.Reads.{EndedShort};
-ghost use Rattle.flp_report.specs.Pieces.{pieces, fall_in};
+ghost use Rattle.flp_report.specs.declared.segment.Segment.{Segment};
+ghost use Rattle.flp_report.specs.declared.job.Jobs.{Jobs};
+ghost use Rattle.flp_report.specs.declared.nonces.Nonces.{Nonces};
+ghost use Rattle.flp_report.specs.Segment.{shape_in, used_in, held_in, records_in};
+ghost use Rattle.flp_report.specs.JobParts.{jobs_shape, jobs_count, jobs_bytes, jobs_in};
+ghost use Rattle.flp_report.specs.Nonces.{nonce_count, nonce_bytes, nonces_in};
+ghost use Rattle.flp_report.specs.Pieces.{pieces, fall_in, IsCut};
 ghost use Rattle.flp_report.specs.Batch.{batch_letters, large_fault, claims_fault, records_fault, fault_of, whole_records, IsHead, IsFront};
 ghost use Rattle.flp_report.specs.Layout.{head_bytes, IsWritable};
 ghost use Rattle.flp_report.specs.Report.{Report, IsReport, record_written, IsBatch};
@@ -52,6 +58,13 @@ pub fn read_records()
     ensures all { (party : Option ℕ) (shape : Shape) (front rest : List ℕ) (header : Header) (records : List (List ℕ))
         → IsFront party shape front header → All (λ r. length r ≡ bytes_of shape) records → length records ≡ header.reports
         → whole_records party shape (front ++ (concat records ++ rest)) ≡ records }
+{}
+
+/// What a segment, jobs and nonces hold is cut into records, jobs and nonces without a gap.
+pub fn held_parts()
+    ensures records { (s : Segment) → IsCut (bytes_of (shape_in s)) (used_in s) (held_in s) (records_in s) }
+    ensures jobs { (j : Jobs) → IsCut (job_bytes_of (jobs_shape j)) (jobs_count j) (jobs_bytes j) (jobs_in j) }
+    ensures nonces { (n : Nonces) → IsCut 16 (nonce_count n) (nonce_bytes n) (nonces_in n) }
 {}
 
 /// A batch that is written within the limits is read again as the same batch: without a fault, with

@@ -6,11 +6,11 @@ pub returns-then-not-is_lt : goal.returns-then-not-is_lt
 returns-then-not-is_lt c =
     let nonces = c.args.self.now in
     let some : 0 < nonces.count = omega (arith, c.loop-index-test.true) in
-    let test = rw (c.cmp.ensures, c.at.ensures, c.at-in-loop-index.ensures) at c.is_lt.ensures in
+    let test = rw (c.cmp.ensures, c.at.ensures.bytes, c.at-in-loop-index.ensures.bytes) at c.is_lt.ensures in
     sym (c.loop-index.invariant some ∙ fall_from-other c.loop-index.index nonces.count nonces.bytes.items c.loop-index-test.true (sym test ∙ c.if-not-is_lt.true))
 
 pub loop-index-preserved : goal.loop-index-preserved
 loop-index-preserved c =
     let nonces = c.args.self.now in
-    let test = rw (c.cmp.ensures, c.at.ensures, c.at-in-loop-index.ensures) at c.is_lt.ensures in
+    let test = rw (c.cmp.ensures, c.at.ensures.bytes, c.at-in-loop-index.ensures.bytes) at c.is_lt.ensures in
     λ some. c.loop-index.invariant some ∙ fall_from-above c.loop-index.index nonces.count nonces.bytes.items c.loop-index-test.true (sym test ∙ c.if-not-is_lt.false)
