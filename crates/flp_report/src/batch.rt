@@ -43,8 +43,8 @@ pub struct BatchReader<'a, S> {
 
 impl<'a, S: Source> BatchReader<'a, S> {
     ghost use Rattle.flp_report.specs.Shape.{bytes_of};
-    ghost use Rattle.flp_report.specs.Batch.{IsHead, IsInLimits, batch_letters, large_fault, claims_fault};
-    ghost use Rattle.flp_report.specs.Head.{head_fault, head_size};
+    ghost use Rattle.flp_report.specs.Batch.{IsHead, IsInLimits, batch_letters, large_fault, claims_fault, IsClaimsFault};
+    ghost use Rattle.flp_report.specs.Head.{head_fault, head_size, IsHeadFault};
     ghost use Rattle.flp_report.specs.Pieces.{fall_in};
     ghost use Rattle.flp_report.specs.Nonces.{nonce_bytes, nonce_count, nonces_in};
     ghost use Rattle.flp_report.specs.Segment.{shape_in, room_of, used_in, held_in};
@@ -84,6 +84,7 @@ impl<'a, S: Source> BatchReader<'a, S> {
         ensures left { IfOk result (λ header. (claims_left self.new ≡ header.claims) × (reports_left self.new ≡ header.reports)) }
         ensures fault { IfErr result (λ fault. IfBatch fault (λ b. IfSome (S.left (source_of self.old))
             (λ bytes. head_fault batch_letters 32 party bytes ≡ Some b))) }
+        ensures kind { IfErr result (λ fault. IfBatch fault (IsHeadFault 32 party)) }
 
         // At every outcome.
         ensures moved { ConsumesSome (S.left (source_of self.old)) (S.left (source_of self.new)) }
@@ -157,6 +158,7 @@ impl<'a, S: Source> BatchReader<'a, S> {
         ensures rising { IfOk result (λ claims. fall_in (nonces_in claims) ≡ None) }
         ensures fault { IfErr result (λ fault. IfBatch fault (λ b. IfSome (S.left (source_of self.old))
             (λ rest. claims_fault (place_of self.old) (claims_left self.old) rest ≡ Some b))) }
+        ensures kind { IfErr result (λ fault. IfBatch fault (IsClaimsFault (place_of self.old) (claims_left self.old))) }
         ensures shaped { OnOk result (IsShaped self.new) }
         ensures shape { OnOk result (shape_given self.new ≡ shape_given self.old) }
         ensures size { OnOk result (size_of_file self.new ≡ size_of_file self.old) }

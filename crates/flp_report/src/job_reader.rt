@@ -43,7 +43,7 @@ pub struct JobReader<'a, S> {
 
 impl<'a, S: Source> JobReader<'a, S> {
     ghost use Rattle.flp_report.specs.Job.{IsJobHead, IsJobInLimits, job_letters, job_large_fault, job_bytes_of, word_fault};
-    ghost use Rattle.flp_report.specs.Head.{head_fault, head_size};
+    ghost use Rattle.flp_report.specs.Head.{head_fault, head_size, IsHeadFault};
     ghost use Rattle.flp_report.specs.JobParts.{jobs_shape, jobs_count, jobs_bytes, jobs_in};
     ghost use Rattle.flp_report.specs.JobReader.{source_of, loan_of, SameLoan, place_of, shares_given, proofs_given, jobs_left, shape_given, IsShaped};
 
@@ -79,6 +79,7 @@ impl<'a, S: Source> JobReader<'a, S> {
         ensures left { IfOk result (λ header. jobs_left self.new ≡ header.jobs) }
         ensures fault { IfErr result (λ fault. IfBatch fault (λ b. IfSome (S.left (source_of self.old))
             (λ bytes. head_fault job_letters 28 None bytes ≡ Some b))) }
+        ensures kind { IfErr result (λ fault. IfBatch fault (IsHeadFault 28 None)) }
 
         // At every outcome.
         ensures moved { ConsumesSome (S.left (source_of self.old)) (S.left (source_of self.new)) }

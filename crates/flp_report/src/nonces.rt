@@ -1,5 +1,5 @@
 //! The nonces of reports that were counted before.
-ghost use Rattle.std.specs.Prelude.{◌≡◌, ◌+◌, ◌*◌, ◌<◌, ◌≤◌, length, take, drop, nat_eq, slice_get, Some};
+ghost use Rattle.std.specs.Prelude.{◌≡◌, ◌+◌, ◌*◌, ◌<◌, ◌≤◌, length, IfSome, take, drop, nat_eq, slice_get, Some};
 
 /// A list of nonces of 16 bytes each, one after the other.
 #[derive(Debug, Drop)]
@@ -55,7 +55,8 @@ impl Nonces {
 
     /// The number of the first nonce that is not above the one before.
     pub(crate) fn first_fall(&self) -> Option<u32>
-        ensures { result ≡ fall_in (nonces_in self.now) }
+        ensures first { result ≡ fall_in (nonces_in self.now) }
+        ensures place { IfSome result (λ number. (1 ≤ number) × (number < nonce_count self.now)) }
     {
         for index in 1..self.count {
             if !self.at(index - 1).cmp(&self.at(index)).is_lt() {

@@ -2,8 +2,8 @@ use Rattle.std.proofs.Common.{◌<◌, ◌∙◌, sym, arith}
 use Rattle.flp_report.proofs.PiecesLemmas.{fall_from-above, fall_from-other}
 use Rattle.flp_report.proofs.nonces.Nonces.first_fall.Goals as goal
 
-pub returns-then-not-is_lt : goal.returns-then-not-is_lt
-returns-then-not-is_lt c =
+pub returns-then-not-is_lt-clause-first : goal.returns-then-not-is_lt-clause-first
+returns-then-not-is_lt-clause-first c =
     let nonces = c.args.self.now in
     let some : 0 < nonces.count = omega (arith, c.loop-index-test.true) in
     let test = rw (c.cmp.ensures, c.at.ensures.bytes, c.at-in-loop-index.ensures.bytes) at c.is_lt.ensures in
