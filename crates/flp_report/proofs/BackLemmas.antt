@@ -104,8 +104,17 @@ records_fault-none before whole rest same =
     rw (ended-none before whole rest reaches, le-ltb whole (before + length rest) within) refl
 
 -- what a file's head says, whatever follows
-header_of-more : (party : Option ℕ) (front rest : List ℕ) (h : Header) → IsHead party front h → header_of (front ++ rest) ≡ h
+pub header_of-more : (party : Option ℕ) (front rest : List ℕ) (h : Header) → IsHead party front h → header_of (front ++ rest) ≡ h
 header_of-more party front rest h head = header_of-append front rest (omega (arith, head.size)) (omega (arith, head.size)) ∙ sym head.same
+
+-- the old claims of a file, whatever follows them
+pub claims_of-more : (party : Option ℕ) (front claims rest : List ℕ) (h : Header) → IsHead party front h → length claims ≡ 16 * h.claims
+    → claims_of (front ++ (claims ++ rest)) ≡ pieces 16 h.claims claims
+claims_of-more party front claims rest h head size =
+    let s = says party front (claims ++ rest) h head in
+    let behind : drop (length front) (front ++ (claims ++ rest)) ≡ claims ++ rest = drop_at front (claims ++ rest) (length front) refl in
+    let fit : h.claims * 16 ≤ length claims = omega (arith, size) in
+    rw (s.text, s.claims, behind) (pieces-append 16 h.claims claims rest fit)
 
 -- a batch that is written is read again
 pub reads_back : (party : Option ℕ) (shape : Shape) (h : Header) (claims : List ℕ) (records : List (List ℕ))
@@ -123,12 +132,9 @@ reads_back party shape h claims records w fits size rising all count =
     let number : length (concat records) ≡ h.reports * bytes_of shape = sizes ∙ ap (λ (n : ℕ). n * bytes_of shape) count in
     let none : records_fault (length front) (length front + h.reports * bytes_of shape) (concat records) ≡ None = records_fault-none (length front) (length front + h.reports * bytes_of shape) (concat records) (ap (λ (n : ℕ). length front + n) number) in
     let bare : front ++ concat records ≡ front ++ (concat records ++ []) = ap (λ (b : List ℕ). front ++ b) (sym (append-nil (concat records))) in
-    let same : front ++ concat records ≡ head_bytes h ++ (claims ++ concat records) = append_assoc (head_bytes h) claims (concat records) in
-    let s = says party (head_bytes h) (claims ++ concat records) h head in
-    let behind : drop (length (head_bytes h)) (head_bytes h ++ (claims ++ concat records)) ≡ claims ++ concat records = drop_at (head_bytes h) (claims ++ concat records) (length (head_bytes h)) refl in
-    let fit : h.claims * 16 ≤ length claims = omega (arith, size) in (
+    let same : front ++ concat records ≡ head_bytes h ++ (claims ++ concat records) = append_assoc (head_bytes h) claims (concat records) in (
       fault_of-records party shape front (concat records) h f ∙ none,
       ap header_of same ∙ header_of-more party (head_bytes h) (claims ++ concat records) h head,
-      ap claims_of same ∙ (rw (s.text, s.claims, behind) (pieces-append 16 h.claims claims (concat records) fit)),
+      ap claims_of same ∙ claims_of-more party (head_bytes h) claims (concat records) h head size,
       ap (whole_records party shape) bare ∙ whole_records-all party shape front [] h records f all count,
     )

@@ -1,7 +1,7 @@
 -- The first fault of a head, from its parts, and what a file shares with its front.
-use Rattle.std.proofs.Common.{◌≡◌, ℕ, ◌+◌, ◌<◌, ◌≤◌, List, [], ◌∷◌, ◌++◌, length, drop, Option, Some, None, nat_eq, refl, sym, ap, ◌∙◌, arith, length-append, length-drop}
+use Rattle.std.proofs.Common.{◌≡◌, ℕ, ◌+◌, ◌<◌, ◌≤◌, List, [], ◌∷◌, ◌++◌, length, take, drop, Option, Some, None, nat_eq, refl, sym, ap, ◌∙◌, arith, length-append, length-drop}
 use Rattle.std.proofs.lemmas.Bool.{lt-ltb, le-ltb}
-use Rattle.std.proofs.lemmas.List.{take-append-le, drop-append-le, drop_at}
+use Rattle.std.proofs.lemmas.List.{take-append-le, drop-append-le, drop_at, length-take-le}
 use Rattle.std.specs.Cmp.Lexicographic.{pointwise}
 use Rattle.std.specs.List.{starts_with}
 use Rattle.byteorder.specs.Endian.{little_number}
@@ -107,3 +107,10 @@ head_size-text letters base party front rest size long same none =
     let enough : 24 ≤ length front = omega (arith, same) in
     let number : 20 + 4 ≤ length front = omega (arith, same) in
     rw (ended-none 0 base (front ++ rest) whole, numbers_fault-append letters party front rest size enough, none, number_at-append 20 front rest number) refl
+
+-- a text that is cut out of a head has the length that the head gives
+pub length-text : (base : ℕ) (front text : List ℕ) → length front ≡ text_end base front → text ≡ take (number_at 20 front) (drop base front) → length front ≡ base + length text
+length-text base front text size same =
+    let held : number_at 20 front ≤ length (drop base front) = omega (arith, size, length-drop base front) in
+    let long : length text ≡ number_at 20 front = ap length same ∙ length-take-le (number_at 20 front) (drop base front) held in
+    omega (arith, size, long)

@@ -1,5 +1,5 @@
 //! What the answers of a reader's calls, one after the other, say of a whole file.
-ghost use Rattle.std.specs.Prelude.{◌≡◌, ◌+◌, ◌*◌, ◌≤◌, ◌<◌, ◌++◌, ℕ, List, Option, Some, None, map, length};
+ghost use Rattle.std.specs.Prelude.{◌≡◌, ◌+◌, ◌-◌, ◌*◌, ◌/◌, min, ◌≤◌, ◌<◌, ◌++◌, ℕ, List, Option, Some, None, map, length};
 ghost use Rattle.std.specs.List.{All, concat};
 ghost use Rattle.flp_report.specs.declared.fault.BatchFault.{BatchFault};
 ghost use Rattle.flp_report.specs.declared.fault.BatchFault.TheVariants.{Trailing};
@@ -8,7 +8,7 @@ ghost use Rattle.flp_report.specs.declared.shape.Shape.{Shape};
 ghost use Rattle.flp_report.specs.declared.job_shape.JobHeader.{JobHeader};
 ghost use Rattle.flp_report.specs.declared.job_shape.JobShape.{JobShape};
 ghost use Rattle.flp_report.specs.Shape.{bytes_of};
-ghost use Rattle.flp_report.specs.Job.{job_letters, job_bytes_of, job_large_fault, jobs_fault, word_fault, job_fault_of, IsJobHead};
+ghost use Rattle.flp_report.specs.Job.{job_letters, job_bytes_of, job_large_fault, jobs_fault, word_fault, job_fault_of, job_header_of, jobs_of, IsJobHead};
 ghost use Rattle.flp_report.specs.Head.{head_fault};
 ghost use Rattle.flp_report.specs.Reads.{EndedShort};
 ghost use Rattle.flp_report.specs.declared.segment.Segment.{Segment};
@@ -18,7 +18,7 @@ ghost use Rattle.flp_report.specs.Segment.{shape_in, used_in, held_in, records_i
 ghost use Rattle.flp_report.specs.JobParts.{jobs_shape, jobs_count, jobs_bytes, jobs_in};
 ghost use Rattle.flp_report.specs.Nonces.{nonce_count, nonce_bytes, nonces_in};
 ghost use Rattle.flp_report.specs.Pieces.{pieces, fall_in, IsCut};
-ghost use Rattle.flp_report.specs.Batch.{batch_letters, large_fault, claims_fault, records_fault, fault_of, whole_records, IsHead, IsFront};
+ghost use Rattle.flp_report.specs.Batch.{batch_letters, large_fault, claims_fault, records_fault, fault_of, header_of, claims_of, whole_records, IsHead, IsFront};
 ghost use Rattle.flp_report.specs.Layout.{head_bytes, IsWritable};
 ghost use Rattle.flp_report.specs.Report.{Report, IsReport, record_written, IsBatch};
 
@@ -49,14 +49,30 @@ pub fn record_faults()
     ensures none { (before whole : ℕ) (rest : List ℕ) → before + length rest ≡ whole → records_fault before whole rest ≡ None }
 {}
 
-/// The records that were read stand first among the whole records of a file, and are all of them
-/// where as many were read as the head gives.
+/// What `head` and `claims` gave is what the whole file says: its header and its old claims.
+pub fn read_front()
+    ensures size { (party : Option ℕ) (front : List ℕ) (header : Header)
+        → IsHead party front header → length front ≡ 32 + length header.text }
+    ensures header { (party : Option ℕ) (front rest : List ℕ) (header : Header)
+        → IsHead party front header → header_of (front ++ rest) ≡ header }
+    ensures claims { (party : Option ℕ) (front claims rest : List ℕ) (header : Header)
+        → IsHead party front header → length claims ≡ 16 * header.claims
+        → claims_of (front ++ (claims ++ rest)) ≡ pieces 16 header.claims claims }
+{}
+
+/// The records that were read stand first among the whole records of a file. They are all of them
+/// where as many were read as the head gives, and where fewer bytes are left than a record has.
 pub fn read_records()
     ensures first { (party : Option ℕ) (shape : Shape) (front rest : List ℕ) (header : Header) (records : List (List ℕ))
         → IsFront party shape front header → All (λ r. length r ≡ bytes_of shape) records → length records ≤ header.reports
-        → (more : List (List ℕ)) × (whole_records party shape (front ++ (concat records ++ rest)) ≡ records ++ more) }
+        → whole_records party shape (front ++ (concat records ++ rest))
+        ≡ records ++ pieces (bytes_of shape) (min (header.reports - length records) (length rest / bytes_of shape)) rest }
     ensures all { (party : Option ℕ) (shape : Shape) (front rest : List ℕ) (header : Header) (records : List (List ℕ))
         → IsFront party shape front header → All (λ r. length r ≡ bytes_of shape) records → length records ≡ header.reports
+        → whole_records party shape (front ++ (concat records ++ rest)) ≡ records }
+    ensures short { (party : Option ℕ) (shape : Shape) (front rest : List ℕ) (header : Header) (records : List (List ℕ))
+        → IsFront party shape front header → All (λ r. length r ≡ bytes_of shape) records → length records ≤ header.reports
+        → length rest < bytes_of shape
         → whole_records party shape (front ++ (concat records ++ rest)) ≡ records }
 {}
 
@@ -98,4 +114,15 @@ pub fn job_faults()
         → jobs * job_bytes_of s < length rest → jobs_fault s before jobs rest ≡ Some Trailing }
     ensures words { (s : JobShape) (before jobs : ℕ) (rest : List ℕ)
         → length rest ≡ jobs * job_bytes_of s → jobs_fault s before jobs rest ≡ word_fault s 0 (pieces (job_bytes_of s) jobs rest) }
+{}
+
+/// What `head` and `jobs` gave is what the whole file says: its header and its jobs.
+pub fn read_jobs()
+    ensures size { (front : List ℕ) (header : JobHeader)
+        → IsJobHead front header → length front ≡ 28 + length header.text }
+    ensures header { (front rest : List ℕ) (header : JobHeader)
+        → IsJobHead front header → job_header_of (front ++ rest) ≡ header }
+    ensures jobs { (s : JobShape) (front jobs rest : List ℕ) (header : JobHeader)
+        → IsJobHead front header → length jobs ≡ header.jobs * job_bytes_of s
+        → jobs_of s (front ++ (jobs ++ rest)) ≡ pieces (job_bytes_of s) header.jobs jobs }
 {}
