@@ -4,6 +4,7 @@ pub mod PlacesLemmas
 pub mod CountRecordsLemmas
 pub mod SegmentLemmas
 pub mod WordsLemmas
+pub mod WordPartsLemmas
 pub mod ReadsLemmas
 pub mod HeadLemmas
 pub mod PiecesLemmas

@@ -1,10 +1,9 @@
 -- A report as it is written and as it is read again: the nonce and the words of a record. From the parts up.
-use Rattle.std.specs.Prelude.{ℕ, ◌≡◌, ◌^◌, ◌<◌, List, All, Option, None, map, length, drop}
+use Rattle.std.specs.Prelude.{ℕ, ◌≡◌, ◌^◌, ◌<◌, List, All, Option, None, map, length}
 use Rattle.flp_report.specs.declared.header.Header.{Header}
 use Rattle.flp_report.specs.declared.shape.Shape.{Shape}
 use Rattle.flp_report.specs.Shape.{words_of}
-use Rattle.flp_report.specs.Words.{words}
-use Rattle.flp_report.specs.Record.{nonce_in}
+use Rattle.flp_report.specs.Record.{nonce_in, words_in}
 use Rattle.flp_report.specs.Layout.{record_bytes}
 use Rattle.flp_report.specs.Batch.{fault_of, header_of, claims_of, whole_records}
 
@@ -25,7 +24,7 @@ record_written r = record_bytes r.nonce r.words
 
 -- the report that a record of this shape is read as
 abbrev pub report_read : Shape → List ℕ → Report
-report_read shape bytes = record { nonce = nonce_in bytes; words = words (words_of shape) (drop 16 bytes) }
+report_read shape bytes = record { nonce = nonce_in bytes; words = words_in shape bytes }
 
 -- a whole file is a batch with this header, these old claims and these reports
 pub record IsBatch (party : Option ℕ) (shape : Shape) (bytes : List ℕ) (header : Header) (claims : List (List ℕ)) (reports : List Report) : Type 0 where

@@ -1,5 +1,5 @@
 //! What the answers of a reader's calls, one after the other, say of a whole file.
-ghost use Rattle.std.specs.Prelude.{◌≡◌, ◌+◌, ◌-◌, ◌*◌, ◌/◌, min, ◌≤◌, ◌<◌, ◌++◌, ℕ, List, Option, Some, None, map, length};
+ghost use Rattle.std.specs.Prelude.{◌≡◌, ◌+◌, ◌-◌, ◌*◌, ◌/◌, min, ◌≤◌, ◌<◌, ◌++◌, ℕ, List, Option, Some, None, map, length, take, drop};
 ghost use Rattle.std.specs.List.{All, concat};
 ghost use Rattle.flp_report.specs.declared.fault.BatchFault.{BatchFault};
 ghost use Rattle.flp_report.specs.declared.fault.BatchFault.TheVariants.{Trailing};
@@ -7,15 +7,17 @@ ghost use Rattle.flp_report.specs.declared.header.Header.{Header};
 ghost use Rattle.flp_report.specs.declared.shape.Shape.{Shape};
 ghost use Rattle.flp_report.specs.declared.job_shape.JobHeader.{JobHeader};
 ghost use Rattle.flp_report.specs.declared.job_shape.JobShape.{JobShape};
-ghost use Rattle.flp_report.specs.Shape.{bytes_of};
-ghost use Rattle.flp_report.specs.Job.{job_letters, job_bytes_of, job_large_fault, jobs_fault, word_fault, job_fault_of, job_header_of, jobs_of, IsJobHead};
+ghost use Rattle.flp_report.specs.Shape.{part_of, bytes_of};
+ghost use Rattle.flp_report.specs.Job.{job_letters, job_part_of, job_bytes_of, job_large_fault, jobs_fault, word_fault, job_fault_of, job_header_of, jobs_of, IsJobHead};
 ghost use Rattle.flp_report.specs.Head.{head_fault};
 ghost use Rattle.flp_report.specs.Reads.{EndedShort};
 ghost use Rattle.flp_report.specs.declared.segment.Segment.{Segment};
 ghost use Rattle.flp_report.specs.declared.job.Jobs.{Jobs};
 ghost use Rattle.flp_report.specs.declared.nonces.Nonces.{Nonces};
 ghost use Rattle.flp_report.specs.Segment.{shape_in, used_in, held_in, records_in};
-ghost use Rattle.flp_report.specs.JobParts.{jobs_shape, jobs_count, jobs_bytes, jobs_in};
+ghost use Rattle.flp_report.specs.JobParts.{jobs_shape, jobs_count, jobs_bytes, jobs_in, job_words_in, input_in, parts_in, seeds_word, seeds_in, job_own_word, job_joint_in, job_query_in};
+ghost use Rattle.flp_report.specs.Record.{words_in, share_in, own_word, joint_in, query_in};
+ghost use Rattle.flp_report.specs.Words.{words};
 ghost use Rattle.flp_report.specs.Nonces.{nonce_count, nonce_bytes, nonces_in};
 ghost use Rattle.flp_report.specs.Pieces.{pieces, fall_in, IsCut};
 ghost use Rattle.flp_report.specs.Batch.{batch_letters, large_fault, claims_fault, records_fault, fault_of, header_of, claims_of, whole_records, IsHead, IsFront};
@@ -83,6 +85,16 @@ pub fn held_parts()
     ensures nonces { (n : Nonces) → IsCut 16 (nonce_count n) (nonce_bytes n) (nonces_in n) }
 {}
 
+/// The words of each part of a record are the record's words at the part's place.
+pub fn record_parts()
+    ensures share { (s : Shape) (bytes : List ℕ) (share : ℕ) → share < s.shares
+        → words (part_of s) (share_in s bytes share) ≡ take (part_of s) (drop (share * part_of s) (words_in s bytes)) }
+    ensures joint { (s : Shape) (bytes : List ℕ) (proof : ℕ) → proof < s.proofs
+        → words s.joint (joint_in s bytes proof) ≡ take s.joint (drop (own_word s proof) (words_in s bytes)) }
+    ensures query { (s : Shape) (bytes : List ℕ) (proof : ℕ) → proof < s.proofs
+        → words s.query (query_in s bytes proof) ≡ take s.query (drop (own_word s proof + s.joint) (words_in s bytes)) }
+{}
+
 /// A batch that is written within the limits is read again as the same batch: without a fault, with
 /// its header, its old claims, and the nonce and the words of each report.
 pub fn reads_back()
@@ -125,4 +137,18 @@ pub fn read_jobs()
     ensures jobs { (s : JobShape) (front jobs rest : List ℕ) (header : JobHeader)
         → IsJobHead front header → length jobs ≡ header.jobs * job_bytes_of s
         → jobs_of s (front ++ (jobs ++ rest)) ≡ pieces (job_bytes_of s) header.jobs jobs }
+{}
+
+/// The words of each part of a job are the job's words at the part's place.
+pub fn job_parts()
+    ensures input { (s : JobShape) (bytes : List ℕ)
+        → words s.input (input_in s bytes) ≡ take s.input (job_words_in s bytes) }
+    ensures parts { (s : JobShape) (bytes : List ℕ)
+        → words ((s.shares - 1) * job_part_of s) (parts_in s bytes) ≡ take ((s.shares - 1) * job_part_of s) (drop s.input (job_words_in s bytes)) }
+    ensures seeds { (s : JobShape) (bytes : List ℕ) (proof : ℕ) → proof < s.proofs
+        → words s.prove (seeds_in s bytes proof) ≡ take s.prove (drop (seeds_word s proof) (job_words_in s bytes)) }
+    ensures joint { (s : JobShape) (bytes : List ℕ) (proof : ℕ) → proof < s.proofs
+        → words s.joint (job_joint_in s bytes proof) ≡ take s.joint (drop (job_own_word s proof) (job_words_in s bytes)) }
+    ensures query { (s : JobShape) (bytes : List ℕ) (proof : ℕ) → proof < s.proofs
+        → words s.query (job_query_in s bytes proof) ≡ take s.query (drop (job_own_word s proof + s.joint) (job_words_in s bytes)) }
 {}
