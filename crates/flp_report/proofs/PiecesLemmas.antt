@@ -97,4 +97,4 @@ sizes-pieces size (suc n) bytes long =
 pub IsCut-pieces : (size n : ℕ) (bytes : List ℕ) → length bytes ≡ n * size → IsCut size n bytes (pieces size n bytes)
 IsCut-pieces size n bytes whole =
     let long : n * size ≤ length bytes = omega (arith, whole) in
-    record { joined = concat-pieces size n bytes whole; number = length-pieces size n bytes; sizes = sizes-pieces size n bytes long }
+    record { whole = whole; joined = concat-pieces size n bytes whole; number = length-pieces size n bytes; sizes = sizes-pieces size n bytes long }

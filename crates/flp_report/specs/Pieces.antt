@@ -1,5 +1,5 @@
 -- Bytes cut into pieces of one size, and the order of nonces.
-use Rattle.std.specs.Prelude.{ℕ, zero, suc, Bool, List, [], ◌∷◌, Option, Some, None, if◌then◌else◌, ◌≡◌, All, length, take, drop}
+use Rattle.std.specs.Prelude.{ℕ, ◌*◌, zero, suc, Bool, List, [], ◌∷◌, Option, Some, None, if◌then◌else◌, ◌≡◌, All, length, take, drop}
 use Rattle.std.specs.List.{concat}
 use Rattle.std.specs.Ordering.{is_lt, nat_cmp}
 use Rattle.std.specs.Cmp.Lexicographic.{slice_cmp}
@@ -11,6 +11,7 @@ pieces size (suc n) bytes = take size bytes ∷ pieces size n (drop size bytes)
 
 -- bytes are parts of one size, one after the other
 pub record IsCut (size count : ℕ) (bytes : List ℕ) (parts : List (List ℕ)) : Type 0 where
+  pub whole : length bytes ≡ count * size
   pub joined : concat parts ≡ bytes
   pub number : length parts ≡ count
   pub sizes : All (λ part. length part ≡ size) parts

@@ -51,12 +51,17 @@ pub fn record_faults()
     ensures none { (before whole : ℕ) (rest : List ℕ) → before + length rest ≡ whole → records_fault before whole rest ≡ None }
 {}
 
-/// What `head` and `claims` gave is what the whole file says: its header and its old claims.
+/// What `head` and `claims` gave is what the whole file says: its header and its old claims. With
+/// what `shape` answered they are all that stands in front of the records.
 pub fn read_front()
     ensures size { (party : Option ℕ) (front : List ℕ) (header : Header)
         → IsHead party front header → length front ≡ 32 + length header.text }
     ensures header { (party : Option ℕ) (front rest : List ℕ) (header : Header)
         → IsHead party front header → header_of (front ++ rest) ≡ header }
+    ensures whole { (party : Option ℕ) (shape : Shape) (front claims : List ℕ) (header : Header)
+        → IsHead party front header → large_fault shape (32 + length header.text) header.claims header.reports ≡ None
+        → length claims ≡ 16 * header.claims → fall_in (pieces 16 header.claims claims) ≡ None
+        → IsFront party shape (front ++ claims) header }
     ensures claims { (party : Option ℕ) (front claims rest : List ℕ) (header : Header)
         → IsHead party front header → length claims ≡ 16 * header.claims
         → claims_of (front ++ (claims ++ rest)) ≡ pieces 16 header.claims claims }
