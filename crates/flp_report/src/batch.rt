@@ -48,7 +48,7 @@ impl<'a, S: Source> BatchReader<'a, S> {
     ghost use Rattle.flp_report.specs.Pieces.{fall_in};
     ghost use Rattle.flp_report.specs.Nonces.{nonce_bytes, nonce_count, nonces_in};
     ghost use Rattle.flp_report.specs.Segment.{shape_in, room_of, used_in, held_in};
-    ghost use Rattle.flp_report.specs.Reader.{source_of, loan_of, SameLoan, place_of, shares_given, proofs_given, claims_left, reports_left, shape_given, size_of_file, IsShaped};
+    ghost use Rattle.flp_report.specs.Reader.{source_of, loan_of, SameLoan, place_of, shares_given, proofs_given, SameNumbers, claims_left, reports_left, shape_given, size_of_file, IsShaped};
 
     /// A reader whose batch begins at the source's next byte. It reads nothing yet.
     pub fn new(source: &'a mut S) -> BatchReader<'a, S>
@@ -126,6 +126,7 @@ impl<'a, S: Source> BatchReader<'a, S> {
             × (large_fault shape (place_of self.old) (claims_left self.old) (reports_left self.old) ≡ Some b)) }
         ensures shape { OnOk result (shape_given self.new ≡ shape) }
         ensures shaped { OnOk result (IsShaped self.new) }
+        ensures numbers { OnOk result (SameNumbers self.old self.new) }
         ensures left { OnOk result ((claims_left self.new ≡ claims_left self.old) × (reports_left self.new ≡ reports_left self.old)) }
         ensures place { OnOk result (place_of self.new ≡ place_of self.old) }
     {
@@ -160,6 +161,7 @@ impl<'a, S: Source> BatchReader<'a, S> {
             (λ rest. claims_fault (place_of self.old) (claims_left self.old) rest ≡ Some b))) }
         ensures kind { IfErr result (λ fault. IfBatch fault (IsClaimsFault (place_of self.old) (claims_left self.old))) }
         ensures shaped { OnOk result (IsShaped self.new) }
+        ensures numbers { OnOk result (SameNumbers self.old self.new) }
         ensures shape { OnOk result (shape_given self.new ≡ shape_given self.old) }
         ensures size { OnOk result (size_of_file self.new ≡ size_of_file self.old) }
         ensures left { OnOk result ((claims_left self.new ≡ 0) × (reports_left self.new ≡ reports_left self.old)) }
@@ -207,6 +209,7 @@ impl<'a, S: Source> BatchReader<'a, S> {
         ensures no_memory { result ≢ Err ReadFault.Memory }
         ensures none_held { OnErr result (used_in room.new ≡ 0) }
         ensures shaped { OnOk result (IsShaped self.new) }
+        ensures numbers { OnOk result (SameNumbers self.old self.new) }
         ensures shape { OnOk result (shape_given self.new ≡ shape_given self.old) }
         ensures size { OnOk result (size_of_file self.new ≡ size_of_file self.old) }
         ensures left { OnOk result ((claims_left self.new ≡ 0) × (reports_left self.new + count ≡ reports_left self.old)) }
@@ -246,6 +249,9 @@ impl<'a, S: Source> BatchReader<'a, S> {
         ensures same { SameLoan self.old self.new }
         ensures ended { OnOk result (IsAtEnd (S.left (source_of self.new))) }
         ensures none_read { OnOk result (Consumes (S.left (source_of self.old)) (S.left (source_of self.new)) []) }
+        ensures numbers { OnOk result (SameNumbers self.old self.new) }
+        ensures left { OnOk result ((claims_left self.new ≡ 0) × (reports_left self.new ≡ 0)) }
+        ensures place { OnOk result (place_of self.new ≡ place_of self.old) }
         ensures fault { OnErr result ((result ≡ Err ReadFault.Failed)
             ⊎ ((result ≡ Err (ReadFault.Batch BatchFault.Trailing)) × IfSome (S.left (source_of self.old)) (λ left. left ≢ []))) }
 
