@@ -21,6 +21,8 @@ pub mod WireLemmas
 pub mod Decisions
 -- the honest proof
 pub mod Honest
+-- outs
+pub mod Outs
 -- verifiers of shares
 pub mod Verifiers
 -- worked examples

@@ -5,6 +5,7 @@ ghost use Rattle.flp_meaning.specs.MeaningLaws.{AnswersDecide, EarlierAnswersDec
 ghost use Rattle.flp_meaning.specs.MeaningLaws.{ChecksAreFixed, OutsAreFixed, AnsweredIsDirect, CallsAreFilled};
 ghost use Rattle.flp_meaning.specs.MeaningLaws.{TrueAnswersAreDirect, InputCountsAreFixed, CallsAreWell};
 ghost use Rattle.flp_meaning.specs.LinearLaws.{ChecksAddUp, InputsAddUp, WireInputsAddUp};
+ghost use Rattle.flp_meaning.specs.LinearLaws.{OutsReadWordsAlone, OutsAddUp};
 ghost use Rattle.flp_meaning.specs.LinearLaws.{VerifiersHaveLength, VerifiersAddUp, VerifiersSumUp};
 ghost use Rattle.flp_meaning.specs.ProofLaws.{FirstIsFound, LeastPower, CallsAreNumbered, DomainsHold, WiresRunThrough};
 ghost use Rattle.flp_meaning.specs.ProofLaws.{HonestProofHasLength, HonestProofHasParts, HonestProofAnswers};
@@ -43,6 +44,13 @@ pub fn shares_add_up()
     ensures checks { ChecksAddUp }
     ensures inputs { InputsAddUp }
     ensures wires { WireInputsAddUp }
+{}
+
+/// In a linear circuit the outs depend on the encoding alone, and those of a sum of encodings are the sums of
+/// their outs.
+pub fn outs_add_up()
+    ensures alone { OutsReadWordsAlone }
+    ensures sums { OutsAddUp }
 {}
 
 /// A verifier has the length that the circuit says. In a linear circuit the verifiers of shares, each made by
