@@ -10,6 +10,7 @@ use Rattle.flp_forms.specs.declared.term.Scale.{Scale}
 use Rattle.flp_forms.specs.declared.term.Scale.TheVariants.{One, MinusOne, Value}
 use Rattle.flp_forms.specs.declared.term.Source.{Source}
 use Rattle.flp_forms.specs.declared.term.Source.TheVariants.{Unit as ByUnit, Meas, Answer}
+use Rattle.flp_forms.specs.PublicValues.{reduced}
 use Rattle.flp_forms.specs.LinearForms.{Share, scale_value, source_value, term_value, form_value, SourceFits, TermFits}
 use Rattle.flp_forms.specs.Laws.{FormsAreAdditive, FormsReadReduced, IsSumOf, FormsAddUp, IsMultipleOf, FormsScale, SameBelow, FormsReadEarlier}
 use Rattle.flp_forms.proofs.PublicLemmas.{get_or-reduced}
@@ -31,20 +32,20 @@ form_value-push values share terms term =
 -- ---- modulo p
 
 scale_value-reduced : (values : List ℕ) (scale : Scale)
-    → Same (scale_value (map (λ v. v % modulus) values) scale) (scale_value values scale)
+    → Same (scale_value (reduced values) scale) (scale_value values scale)
 scale_value-reduced values One = refl
 scale_value-reduced values MinusOne = refl
 scale_value-reduced values (Value index) = ap (λ (n : ℕ). n % modulus) (get_or-reduced values index) ∙ same_mod (get_or values index 0)
 
 pub term_value-reduced : (values : List ℕ) (share : Share) (term : Term)
-    → Same (term_value (map (λ v. v % modulus) values) share term) (term_value values share term)
+    → Same (term_value (reduced values) share term) (term_value values share term)
 term_value-reduced values share term =
     same_mul _ (scale_value values term.scale) _ (source_value share term.source) (scale_value-reduced values term.scale) refl
 
 pub form_value-reduced : FormsReadReduced
 form_value-reduced values share [] = refl
 form_value-reduced values share (term ∷ terms) =
-    ap (λ (n : ℕ). n % modulus) (form_value-cons (map (λ v. v % modulus) values) share term terms)
+    ap (λ (n : ℕ). n % modulus) (form_value-cons (reduced values) share term terms)
     ∙ same_add _ (term_value values share term) _ (form_value values share terms)
     (term_value-reduced values share term) (form_value-reduced values share terms)
     ∙ ap (λ (n : ℕ). n % modulus) (sym (form_value-cons values share term terms))

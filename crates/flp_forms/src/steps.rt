@@ -1,8 +1,7 @@
 //! Public values in a straight line.
-ghost use Rattle.std.specs.Prelude.{◌≡◌, ℕ, List, ◌+◌, ◌*◌, ◌%◌, ◌^◌, ◌<◌, ◌≤◌, length, map, IfOk, OnErr, IfSome, slice_get, slice_index, Some};
+ghost use Rattle.std.specs.Prelude.{◌≡◌, ℕ, List, ◌+◌, ◌*◌, ◌^◌, ◌<◌, ◌≤◌, length, map, IfOk, OnErr, IfSome, slice_index};
 ghost use Rattle.std.specs.List.{range_with_len};
-ghost use Rattle.flp_field.specs.Word.{modulus};
-ghost use Rattle.flp_forms.specs.PublicValues.{step_value, publics, public_at, StepFits};
+ghost use Rattle.flp_forms.specs.PublicValues.{step_value, publics, public_at, reduced, StepFits};
 ghost use Rattle.flp_forms.specs.StraightLine.{Grows, StandsFor};
 
 use crate::Memory;
@@ -140,7 +139,7 @@ impl Steps {
     pub fn run(&self, joint: &[Fe], out: &mut [Fe])
         requires words { length joint.now ≡ self.now.joint }
         requires size { length out.old ≡ length self.now.steps }
-        ensures { out.new ≡ map (λ v. v % modulus) (publics self.now.steps joint.now) }
+        ensures { out.new ≡ reduced (publics self.now.steps joint.now) }
     {
         for (i, step) in self.items.iter().enumerate() {
             out[i] = value_of(*step, joint, &out[..i]);
