@@ -174,20 +174,19 @@ fn forms_one_after_another(rt: HostRuntime) -> Result<(), Fail> {
 #[test]
 fn coefficients(rt: HostRuntime) -> Result<(), Fail> {
     let mut steps = Steps::new(rt.alloc(), 1)?;
-    let r = Scale::Value(steps.joint(0));
+    let r = steps.joint(0);
+    let opposite = steps.scale_product(Scale::MinusOne, Scale::Value(r))?;
+    assert_eq!(rt; opposite, Scale::Value(2));
     let one = steps.constant(Fe::ONE)?;
     assert_eq!(rt; steps.scale_of(one), Scale::One);
     let minus = steps.constant(Fe::ONE.neg())?;
     assert_eq!(rt; steps.scale_of(minus), Scale::MinusOne);
-    for scale in [Scale::MinusOne, r] {
-        assert_eq!(rt; steps.scale_product(Scale::One, scale)?, scale);
-    }
-    let opposite = steps.scale_product(Scale::MinusOne, r)?;
-    assert_eq!(rt; opposite, Scale::Value(3));
+    let same = steps.scale_product(Scale::One, Scale::MinusOne)?;
+    assert_eq!(rt; same, Scale::MinusOne);
     let publics = public_values(rt.alloc(), &steps, &words([5])?)?;
     assert_eq!(rt;
         publics.as_slice(),
-        [5, 1, MODULUS - 1, MODULUS - 5].as_slice()
+        [5, MODULUS - 1, MODULUS - 5, 1].as_slice()
     );
     Ok(())
 }
