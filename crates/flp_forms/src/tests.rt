@@ -168,6 +168,33 @@ fn forms_one_after_another(rt: HostRuntime) -> Result<(), Fail> {
     assert_eq!(rt; forms.at(0), first.as_slice());
     assert_eq!(rt; forms.at(1), [].as_slice());
     assert_eq!(rt; forms.at(2), third.as_slice());
+    let mut all = Forms::new(rt.alloc());
+    all.append(&forms)?;
+    all.append(&forms)?;
+    assert_eq!(rt; all.len(), 6);
+    assert_eq!(rt; all.at(3), first.as_slice());
+    Ok(())
+}
+
+/// The values of two forms from the first of the forms on: 2 * 10 + unit, and 20 - 5 where `unit` is 1.
+#[test]
+fn values_of_forms(rt: HostRuntime) -> Result<(), Fail> {
+    let publics = words([2])?;
+    let meas = words([10, 20])?;
+    let answers = words([5])?;
+    let mut forms = Forms::new(rt.alloc());
+    forms.push(&[])?;
+    forms.push(&[
+        term(Scale::Value(0), Source::Meas(0)),
+        term(Scale::One, Source::Unit),
+    ])?;
+    forms.push(&[
+        term(Scale::One, Source::Meas(1)),
+        term(Scale::MinusOne, Source::Answer(0)),
+    ])?;
+    let mut out = [Fe::ZERO; 2];
+    forms.values(1, &publics, &meas, &answers, Fe::ONE, &mut out);
+    assert_eq!(rt; values(rt.alloc(), &out)?.as_slice(), [21, 15].as_slice());
     Ok(())
 }
 
