@@ -18,6 +18,11 @@ mod expr;
 mod index;
 mod lexer;
 mod parser;
+mod printer;
+mod printer_expr;
+mod printer_index;
+mod printer_stmt;
+mod printer_text;
 mod standard;
 mod stmt;
 mod text;
@@ -26,4 +31,6 @@ pub use flp_syntax::{
     Arg, Body, Circuit, Coef, Counted, Decl, Expr, Idx, IdxItem, Item, KindText, LangFault, Mark,
     Params, Stmt, Token,
 };
+pub use printer_text::print;
+pub use std::alloc::AllocError as Memory;
 pub use text::{one_reading, one_verdict, parse};
