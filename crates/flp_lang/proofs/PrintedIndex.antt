@@ -1,14 +1,14 @@
 -- Indices that were read are read again where they are printed, but for their token numbers, under no more levels.
-use Rattle.std.proofs.Common.{ℕ, suc, ◌+◌, ◌-◌, ◌≤◌, ◌<◌, ◌≡◌, Bool, true, false, ◌||◌, List, [], ◌∷◌, refl, sym, subst, ap, ◌∙◌, arith}
+use Rattle.std.proofs.Common.{ℕ, suc, ◌+◌, ◌≤◌, ◌≡◌, Bool, true, false, ◌||◌, List, [], ◌∷◌, refl}
 use Rattle.flp_lang.specs.Grammar.{IsIndex, an_index, MoreIndexTerms, no_index_term, plus_index_term, minus_index_term, IsIndexTerm, an_index_term, MoreIndexFactors, no_index_factor, star_index_factor, IsIndexPrim, an_index_number, an_index_var, an_index_group}
-use Rattle.flp_syntax.specs.Tree.{Index, index_number, index_var, index_add, index_mul, IndexItems, index_item_on, Indices, index_on, index_items, indices, index_sum, index_product}
-use Rattle.flp_lang.specs.Print.{wrap, put_sign, put_index, put_index_items, put_more_index_items, put_index_factors, put_more_index_factors, put_exponent, put_range, is_index_add, is_index_mul}
+use Rattle.flp_syntax.specs.Tree.{Index, index_number, index_var, index_items, indices, index_sum, index_product}
+use Rattle.flp_lang.specs.Print.{wrap, put_index, put_more_index_items, put_more_index_factors, put_exponent, put_range, is_index_add, is_index_mul}
 use Rattle.flp_lang.specs.Bare.{bare_index, bare_index_items, bare_indices}
 use Rattle.flp_lang.proofs.WellFormed.{IsReal}
-use Rattle.flp_lang.proofs.Reprint.{Clean, Reprint, Reprints, fits, closed, close, room, up, over}
+use Rattle.flp_lang.proofs.Reprint.{Clean, Reprints, fits, closed, close, room, up, over}
 use Rattle.flp_syntax.specs.declared.token.Token.{Token}
-use Rattle.flp_syntax.specs.declared.token.Token.TheVariants.{Number, Name, Fixed}
-use Rattle.flp_syntax.specs.declared.token.Mark.TheVariants.{In, DotDot, Open, Close, Plus, Minus, Star}
+use Rattle.flp_syntax.specs.declared.token.Token.TheVariants.{Name, Fixed}
+use Rattle.flp_syntax.specs.declared.token.Mark.TheVariants.{DotDot, Open, Close}
 
 -- sums and products of parts that are equal but for their token numbers
 bare_index_sum : (v w : Index) (more more' : List (Bool × Index)) → bare_index v ≡ bare_index w → bare_index_items (index_items more) ≡ bare_index_items (index_items more') → bare_index (index_sum v more) ≡ bare_index (index_sum w more')

@@ -1,20 +1,18 @@
 -- Statements, declarations and circuits that were read are read again where they are printed, but for their token numbers, under no more levels.
-use Rattle.std.proofs.Common.{ℕ, suc, ◌+◌, ◌-◌, ◌≤◌, ◌<◌, ◌≡◌, List, [], ◌∷◌, map, codes, refl, sym, subst, ap, ◌∙◌, arith}
-use Rattle.flp_lang.specs.Grammar.{IsStmt, a_check, an_out, an_each, IsStmts, some_stmts, MoreStmts, no_stmt, one_more_stmt, IsCoef, a_coef, a_minus_coef, MoreCoefs, no_coef, one_more_coef, IsKind, a_mul, a_poly, a_psum, IsDecl, a_decl, MoreDecls, no_decl, one_more_decl, IsBody, a_body, IsSetting, a_setting, IsStandard, a_count, a_sum_circuit, a_sumvec, a_histogram, a_multihot, IsCircuit, a_standard, a_program}
-use Rattle.flp_syntax.specs.Tree.{Index, Statement, check, out, each, statements, Kind, mul_kind, poly_kind, psum_kind, Declaration, Program, Text, standard, program}
-use Rattle.flp_lang.specs.Print.{put_range, put_tree, put_stmt, put_stmts, put_coef, put_coefs, put_kind, put_decl, put_decls, put_body, put_setting, put_params, put_text}
-use Rattle.flp_lang.specs.Bare.{bare_index, bare_tree, bare_stmt, bare_stmts, bare_decl, bare_program, bare}
+use Rattle.std.proofs.Common.{ℕ, suc, ◌+◌, ◌≡◌, List, [], ◌∷◌, map, codes, refl, sym, subst, ap, ◌∙◌, arith}
+use Rattle.flp_lang.specs.Grammar.{IsStmt, a_check, an_out, an_each, IsStmts, some_stmts, MoreStmts, no_stmt, one_more_stmt, IsCoef, a_coef, a_minus_coef, MoreCoefs, no_coef, one_more_coef, IsKind, a_mul, a_poly, a_psum, IsDecl, a_decl, MoreDecls, no_decl, one_more_decl, a_body, IsSetting, a_setting, IsStandard, a_count, a_sum_circuit, a_sumvec, a_histogram, a_multihot, IsCircuit, a_standard, a_program}
+use Rattle.flp_syntax.specs.Tree.{Index, Statement, check, out, each, statements, Kind, Declaration, Text, standard, program}
+use Rattle.flp_lang.specs.Print.{put_stmt, put_stmts, put_coef, put_coefs, put_kind, put_decl, put_decls, put_setting, put_text}
+use Rattle.flp_lang.specs.Bare.{bare_index, bare_stmt, bare_stmts, bare_decl, bare}
 use Rattle.flp_lang.specs.Run.{psums}
-use Rattle.flp_lang.proofs.WellFormed.{IsReal}
 use Rattle.flp_lang.proofs.Reprint.{Clean, Reprint, Reprints, fits, closed, close, room, up}
-use Rattle.flp_lang.proofs.PrintedIndex.{PlainIndex, index_printed, range_printed}
-use Rattle.flp_lang.proofs.PrintedTree.{PlainTree, expr_printed}
+use Rattle.flp_lang.proofs.PrintedIndex.{index_printed, range_printed}
+use Rattle.flp_lang.proofs.PrintedTree.{expr_printed}
 use Rattle.flp_syntax.specs.declared.syntax.Coef.{Coef}
 use Rattle.flp_syntax.specs.declared.syntax.Params.{Params}
-use Rattle.flp_syntax.specs.declared.syntax.Params.TheVariants as params
 use Rattle.flp_syntax.specs.declared.token.Token.{Token}
-use Rattle.flp_syntax.specs.declared.token.Token.TheVariants.{Number, Name, Fixed}
-use Rattle.flp_syntax.specs.declared.token.Mark.TheVariants.{Use, Meas, Joint, Gadget, Check, Out, Each, Sum, Mul, Poly, Psum, Semicolon, Equals, Close, Minus}
+use Rattle.flp_syntax.specs.declared.token.Token.TheVariants.{Fixed}
+use Rattle.flp_syntax.specs.declared.token.Mark.TheVariants.{Semicolon, Close}
 
 loop_same : (name : List ℕ) (a b c d : Index) (v w : List Statement) → bare_index a ≡ bare_index c → bare_index b ≡ bare_index d → bare_stmts (statements v) ≡ bare_stmts (statements w) → each 0 name (bare_index a) (bare_index b) (bare_stmts (statements v)) ≡ each 0 name (bare_index c) (bare_index d) (bare_stmts (statements w))
 loop_same name a b c d v w p q r = cc

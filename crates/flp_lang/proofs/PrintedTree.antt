@@ -1,15 +1,14 @@
 -- Expressions that were read are read again where they are printed, but for their token numbers, under no more levels.
-use Rattle.std.proofs.Common.{ℕ, suc, ◌+◌, ◌-◌, ◌≤◌, ◌<◌, ◌≡◌, Bool, true, false, ◌||◌, List, [], ◌∷◌, Option, None, Some, refl, sym, subst, ap, ◌∙◌, arith}
-use Rattle.flp_lang.specs.Grammar.{IsIndex, IsExpr, an_expr, a_minus_expr, MoreTerms, no_term, plus_term, minus_term, IsTerm, a_term, MoreFactors, no_factor, star_factor, IsFactor, a_factor, IsExponent, no_exponent, an_exponent, IsPrim, a_number, a_joint, a_meas, a_meas_or_zero, a_sum, a_call, a_var, a_group, IsArgs, some_args, MoreArgs, no_arg, comma_arg, IsArg, an_arg, an_each_arg}
-use Rattle.flp_syntax.specs.Tree.{Index, Tree, number, var, joint, meas, meas_or_zero, sum, call, add, mul, pow, Items, item_on, Trees, tree_on, items, trees, arguments, Argument, one, each_arg, sum_of, product_of, power_of}
-use Rattle.flp_lang.specs.Print.{wrap, put_sign, put_minus, put_index, put_exponent, put_range, put_tree, put_items, put_more_items, put_factors, put_more_factors, put_arg, put_args, put_more_args, is_add, is_mul, is_pow}
+use Rattle.std.proofs.Common.{ℕ, suc, ◌+◌, ◌≤◌, ◌≡◌, Bool, true, false, ◌||◌, List, [], ◌∷◌, Some, refl, ap}
+use Rattle.flp_lang.specs.Grammar.{IsIndex, IsExpr, an_expr, a_minus_expr, MoreTerms, no_term, plus_term, minus_term, IsTerm, a_term, MoreFactors, no_factor, star_factor, IsFactor, a_factor, no_exponent, an_exponent, IsPrim, a_number, a_joint, a_meas, a_meas_or_zero, a_sum, a_call, a_var, a_group, IsArgs, some_args, MoreArgs, no_arg, comma_arg, IsArg, an_arg, an_each_arg}
+use Rattle.flp_syntax.specs.Tree.{Index, Tree, number, var, joint, meas, meas_or_zero, sum, call, pow, items, trees, arguments, Argument, one, each_arg, sum_of, product_of, power_of}
+use Rattle.flp_lang.specs.Print.{wrap, put_index, put_exponent, put_tree, put_more_items, put_more_factors, put_arg, put_args, put_more_args, is_add, is_mul, is_pow}
 use Rattle.flp_lang.specs.Bare.{bare_index, bare_tree, bare_items, bare_trees, bare_arg, bare_args}
-use Rattle.flp_lang.proofs.WellFormed.{IsReal}
 use Rattle.flp_lang.proofs.Reprint.{Clean, Reprint, Reprints, fits, closed, close, close_bracket, room, up, over}
 use Rattle.flp_lang.proofs.PrintedIndex.{PlainIndex, index_printed, index_prim_printed, range_printed}
 use Rattle.flp_syntax.specs.declared.token.Token.{Token}
-use Rattle.flp_syntax.specs.declared.token.Token.TheVariants.{Number, Name, Fixed}
-use Rattle.flp_syntax.specs.declared.token.Mark.TheVariants.{Joint, Meas, Each, Sum, OpenBracket, CloseBracket, Question, Open, Close, Plus, Minus, Star, Caret, Comma}
+use Rattle.flp_syntax.specs.declared.token.Token.TheVariants.{Fixed}
+use Rattle.flp_syntax.specs.declared.token.Mark.TheVariants.{CloseBracket, Close, Caret}
 
 -- sums, products and powers of parts that are equal but for their token numbers
 bare_sum : (minus : Bool) (v w : Tree) (more more' : List (Bool × Tree)) → bare_tree v ≡ bare_tree w → bare_items (items more) ≡ bare_items (items more') → bare_tree (sum_of minus v more) ≡ bare_tree (sum_of minus w more')

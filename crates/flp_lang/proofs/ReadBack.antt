@@ -1,6 +1,6 @@
 -- A circuit that was parsed and printed is parsed again.
-use Rattle.std.proofs.Common.{ℕ, suc, ◌+◌, ◌≤◌, ◌<◌, ◌≡◌, List, [], ◌∷◌, ◌++◌, length, refl, sym, subst, ap, ◌∙◌, arith}
-use Rattle.flp_lang.specs.Verdict.{good, bad, deep, moved, levels_after, level_of, IsShallow, Judged}
+use Rattle.std.proofs.Common.{ℕ, ◌+◌, ◌≤◌, ◌≡◌, List, [], ◌∷◌, ◌++◌, length, refl, sym, subst, ap, ◌∙◌, arith}
+use Rattle.flp_lang.specs.Verdict.{good, bad, deep, moved, levels_after, Judged}
 use Rattle.flp_lang.specs.Parsed.{IsParsed, IsParseFault}
 use Rattle.flp_lang.specs.Print.{printed_tokens}
 use Rattle.flp_lang.specs.Spelling.{spelled}

@@ -1,11 +1,9 @@
 -- Tokens that were read, and are printed again: what is kept of them.
-use Rattle.std.proofs.Common.{ℕ, suc, ◌+◌, ◌-◌, ◌≤◌, ◌<◌, ◌≡◌, List, [], ◌∷◌, refl, subst, arith}
-use Rattle.flp_field.specs.Word.{modulus}
+use Rattle.std.proofs.Common.{ℕ, suc, ◌+◌, ◌-◌, ◌≤◌, ◌≡◌, List, [], ◌∷◌, subst, arith}
 use Rattle.flp_lang.specs.Verdict.{moved}
-use Rattle.flp_syntax.specs.WellFormed.{IsName}
 use Rattle.flp_syntax.specs.declared.token.Token.{Token}
-use Rattle.flp_syntax.specs.declared.token.Token.TheVariants.{Number, Name, Fixed}
-use Rattle.flp_syntax.specs.declared.token.Mark.TheVariants.{OpenBracket, CloseBracket, Open, Close}
+use Rattle.flp_syntax.specs.declared.token.Token.TheVariants.{Fixed}
+use Rattle.flp_syntax.specs.declared.token.Mark.TheVariants.{CloseBracket, Close}
 use Rattle.flp_lang.proofs.WellFormed.{IsReal}
 
 -- tokens that a text can have, under these levels, with no 65th level

@@ -1,12 +1,12 @@
 -- Spelled tokens are read as these tokens.
-use Rattle.std.proofs.Common.{ℕ, suc, ◌+◌, ◌-◌, ◌*◌, ◌/◌, ◌%◌, ◌^◌, ◌≤◌, ◌<◌, ◌≡◌, ◌==◌, ◌||◌, ◌&&◌, Bool, true, false, cond, List, [], ◌∷◌, ◌++◌, length, take, drop, Option, None, Some, refl, sym, subst, ap, ◌∙◌, arith, length-append, codes, decimal, nat_lt, nat_le}
+use Rattle.std.proofs.Common.{ℕ, ◌+◌, ◌-◌, ◌*◌, ◌/◌, ◌%◌, ◌≤◌, ◌<◌, ◌≡◌, ◌==◌, ◌&&◌, Bool, true, false, List, [], ◌∷◌, ◌++◌, length, take, Option, None, Some, refl, sym, subst, ap, ◌∙◌, arith, length-append, decimal}
 use Rattle.std.proofs.Math.Seq.{take-append_seam, drop-append_seam}
 use Rattle.std.proofs.lemmas.Fmt.{decimal_by_steps}
 use Rattle.std.proofs.lemmas.Bool.Decides.{nat_tests}
 use borrow.Author.Tests.{lt-ltb}
 use Rattle.std.specs.List.{prefix_len}
 use Rattle.flp_field.specs.Word.{modulus}
-use Rattle.flp_syntax.specs.Tokens.{Reads, nothing_read, piece_read, piece_of, AreTokens, is_blank, is_letter, is_digit, is_name_byte, digits_from, digits_value, reserved, word_token, symbol, symbol_piece, number_piece}
+use Rattle.flp_syntax.specs.Tokens.{Reads, nothing_read, piece_read, piece_of, AreTokens, is_blank, is_letter, is_digit, is_name_byte, digits_from, digits_value, reserved, word_token, number_piece}
 use Rattle.flp_syntax.specs.WellFormed.{IsName, IsUnreserved, are_name_bytes}
 use Rattle.flp_lang.specs.Spelling.{mark_text, spelling, spelled_on, spelled}
 use Rattle.flp_lang.proofs.WellFormed.{IsReal, AreReal}

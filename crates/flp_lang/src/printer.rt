@@ -5,8 +5,9 @@ ghost use Rattle.flp_syntax.specs.declared.token.Token.TheVariants as tokens;
 ghost use Rattle.flp_lang.specs.Spelling.{mark_text};
 ghost use Rattle.flp_lang.specs.Written.{Wrote};
 
+use crate::Memory;
 use flp_syntax::Mark;
-use std::alloc::{AllocError, Global};
+use std::alloc::Global;
 
 /// The text of a reserved word or a symbol.
 fn mark_text(mark: Mark) -> &'static [u8]
@@ -49,7 +50,7 @@ pub struct Printer {
 
 impl Printer {
     /// The first token alone.
-    pub fn begin(alloc: Global, first: Mark) -> Result<Printer, AllocError>
+    pub fn begin(alloc: Global, first: Mark) -> Result<Printer, Memory>
         ensures { IfOk result (λ printer. printer.text.items ≡ mark_text first) }
     {
         let text = Vec::from_slice(alloc, mark_text(first))?;
@@ -57,7 +58,7 @@ impl Printer {
     }
 
     /// A space, and then these bytes.
-    fn word(&mut self, bytes: &[u8]) -> Result<(), AllocError>
+    fn word(&mut self, bytes: &[u8]) -> Result<(), Memory>
         ensures { OnOk result (self.new.text.items ≡ self.old.text.items ++ (32 ∷ bytes.now)) }
     {
         self.text.push(b' ')?;
@@ -65,21 +66,21 @@ impl Printer {
     }
 
     /// A reserved word or a symbol.
-    pub fn mark(&mut self, mark: Mark) -> Result<(), AllocError>
+    pub fn mark(&mut self, mark: Mark) -> Result<(), Memory>
         ensures { OnOk result (Wrote self.old.text.items (λ s. tokens.Fixed mark ∷ s) self.new.text.items) }
     {
         self.word(mark_text(mark))
     }
 
     /// A name.
-    pub fn name(&mut self, name: &[u8]) -> Result<(), AllocError>
+    pub fn name(&mut self, name: &[u8]) -> Result<(), Memory>
         ensures { OnOk result (Wrote self.old.text.items (λ s. tokens.Name name.now ∷ s) self.new.text.items) }
     {
         self.word(name)
     }
 
     /// A number, in decimal digits.
-    pub fn number(&mut self, value: u64) -> Result<(), AllocError>
+    pub fn number(&mut self, value: u64) -> Result<(), Memory>
         ensures { OnOk result (Wrote self.old.text.items (λ s. tokens.Number value ∷ s) self.new.text.items) }
     {
         let mut digits = itoa::Buffer::new();

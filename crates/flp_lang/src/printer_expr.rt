@@ -8,9 +8,9 @@ ghost use Rattle.flp_syntax.specs.View.{tree_of, item_of, arg_of};
 ghost use Rattle.flp_lang.specs.Print.{wrap, is_add, is_mul, is_pow, put_tree, put_items, put_factors, put_args, put_arg};
 ghost use Rattle.flp_lang.specs.Written.{Wrote};
 
+use crate::Memory;
 use crate::printer::Printer;
 use flp_syntax::{Arg, Expr, Item, Mark};
-use std::alloc::AllocError;
 
 /// Whether it is a sum.
 #[tactic(auto, using(flp_syntax::specs::View::view_equations))]
@@ -70,7 +70,7 @@ impl Printer {
     /// An expression.
     #[tactic(auto, using(flp_syntax::specs::View::view_equations))]
     #[cycle(printed_expr)]
-    pub fn expr(&mut self, expr: &Expr) -> Result<(), AllocError>
+    pub fn expr(&mut self, expr: &Expr) -> Result<(), Memory>
         ensures { OnOk result (Wrote self.old.text.items (put_tree (tree_of expr.now)) self.new.text.items) }
     {
         match expr {
@@ -114,7 +114,7 @@ impl Printer {
 
     /// `NAME "(" args ")"`
     #[cycle(printed_expr)]
-    fn call(&mut self, name: &[u8], args: &[Arg]) -> Result<(), AllocError>
+    fn call(&mut self, name: &[u8], args: &[Arg]) -> Result<(), Memory>
         ensures { OnOk result (Wrote self.old.text.items (λ s. tokens.Name name.now ∷ tokens.Fixed marks.Open ∷ put_args (arguments (map arg_of args.now)) (tokens.Fixed marks.Close ∷ s)) self.new.text.items) }
     {
         self.name(name)?;
@@ -125,7 +125,7 @@ impl Printer {
 
     /// An expression, in parentheses or not.
     #[cycle(printed_expr)]
-    fn group(&mut self, wrapped: bool, expr: &Expr) -> Result<(), AllocError>
+    fn group(&mut self, wrapped: bool, expr: &Expr) -> Result<(), Memory>
         ensures { OnOk result (Wrote self.old.text.items (wrap wrapped (put_tree (tree_of expr.now))) self.new.text.items) }
     {
         if !wrapped {
@@ -138,7 +138,7 @@ impl Printer {
 
     /// An item of a sum behind its sign: a sum stands in parentheses.
     #[cycle(printed_expr)]
-    fn item(&mut self, expr: &Expr) -> Result<(), AllocError>
+    fn item(&mut self, expr: &Expr) -> Result<(), Memory>
         ensures { OnOk result (Wrote self.old.text.items (wrap (is_add (tree_of expr.now)) (put_tree (tree_of expr.now))) self.new.text.items) }
     {
         self.group(is_sum(expr), expr)
@@ -146,7 +146,7 @@ impl Printer {
 
     /// A factor: a sum and a product stand in parentheses.
     #[cycle(printed_expr)]
-    fn factor(&mut self, expr: &Expr) -> Result<(), AllocError>
+    fn factor(&mut self, expr: &Expr) -> Result<(), Memory>
         ensures { OnOk result (Wrote self.old.text.items (wrap (is_add (tree_of expr.now) || is_mul (tree_of expr.now)) (put_tree (tree_of expr.now))) self.new.text.items) }
     {
         self.group(is_sum_or_product(expr), expr)
@@ -154,7 +154,7 @@ impl Printer {
 
     /// A base: a sum, a product and a power stand in parentheses.
     #[cycle(printed_expr)]
-    fn base(&mut self, expr: &Expr) -> Result<(), AllocError>
+    fn base(&mut self, expr: &Expr) -> Result<(), Memory>
         ensures { OnOk result (Wrote self.old.text.items (wrap (is_add (tree_of expr.now) || is_mul (tree_of expr.now) || is_pow (tree_of expr.now)) (put_tree (tree_of expr.now))) self.new.text.items) }
     {
         self.group(is_compound(expr), expr)
@@ -163,7 +163,7 @@ impl Printer {
     /// The items of a sum, each with its sign.
     #[tactic(auto, using(crate::proofs::Writing::item_of_out))]
     #[cycle(printed_expr)]
-    fn items(&mut self, items: &[Item]) -> Result<(), AllocError>
+    fn items(&mut self, items: &[Item]) -> Result<(), Memory>
         ensures { OnOk result (Wrote self.old.text.items (put_items (mirror.items (map item_of items.now))) self.new.text.items) }
     {
         let Some((first, more)) = items.split_first() else {
@@ -181,7 +181,7 @@ impl Printer {
     /// The factors of a product.
     #[tactic(auto, using(flp_syntax::specs::View::view_equations))]
     #[cycle(printed_expr)]
-    fn factors(&mut self, factors: &[Expr]) -> Result<(), AllocError>
+    fn factors(&mut self, factors: &[Expr]) -> Result<(), Memory>
         ensures { OnOk result (Wrote self.old.text.items (put_factors (trees (map tree_of factors.now))) self.new.text.items) }
     {
         let Some((first, more)) = factors.split_first() else {
@@ -198,7 +198,7 @@ impl Printer {
     /// `args = arg { "," arg }`
     #[tactic(auto, using(flp_syntax::specs::View::view_equations))]
     #[cycle(printed_expr)]
-    fn args(&mut self, args: &[Arg]) -> Result<(), AllocError>
+    fn args(&mut self, args: &[Arg]) -> Result<(), Memory>
         ensures { OnOk result (Wrote self.old.text.items (put_args (arguments (map arg_of args.now))) self.new.text.items) }
     {
         let Some((first, more)) = args.split_first() else {
@@ -215,7 +215,7 @@ impl Printer {
     /// `arg = expr | "each" NAME "in" idx ".." idx "(" args ")"`
     #[tactic(auto, using(flp_syntax::specs::View::view_equations))]
     #[cycle(printed_expr)]
-    fn arg(&mut self, arg: &Arg) -> Result<(), AllocError>
+    fn arg(&mut self, arg: &Arg) -> Result<(), Memory>
         ensures { OnOk result (Wrote self.old.text.items (put_arg (arg_of arg.now)) self.new.text.items) }
     {
         match arg {

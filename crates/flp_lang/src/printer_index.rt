@@ -7,9 +7,9 @@ ghost use Rattle.flp_syntax.specs.View.{index_of, index_item_of};
 ghost use Rattle.flp_lang.specs.Print.{wrap, is_index_add, is_index_mul, put_index, put_index_items, put_index_factors, put_exponent, put_range, put_minus, put_sign};
 ghost use Rattle.flp_lang.specs.Written.{Wrote};
 
+use crate::Memory;
 use crate::printer::Printer;
 use flp_syntax::{Idx, IdxItem, Mark};
-use std::alloc::AllocError;
 
 /// Whether it is a sum.
 #[tactic(auto, using(flp_syntax::specs::View::view_equations))]
@@ -35,7 +35,7 @@ fn is_sum_or_product(idx: &Idx) -> bool
 
 impl Printer {
     /// A minus, where the first item of a sum has one.
-    pub fn minus(&mut self, minus: bool) -> Result<(), AllocError>
+    pub fn minus(&mut self, minus: bool) -> Result<(), Memory>
         ensures { OnOk result (Wrote self.old.text.items (put_minus minus) self.new.text.items) }
     {
         if minus {
@@ -46,7 +46,7 @@ impl Printer {
     }
 
     /// The sign before a further item of a sum.
-    pub fn sign(&mut self, minus: bool) -> Result<(), AllocError>
+    pub fn sign(&mut self, minus: bool) -> Result<(), Memory>
         ensures { OnOk result (Wrote self.old.text.items (put_sign minus) self.new.text.items) }
     {
         if minus {
@@ -59,7 +59,7 @@ impl Printer {
     /// An index.
     #[tactic(auto, using(flp_syntax::specs::View::view_equations))]
     #[cycle(printed_index)]
-    pub fn index(&mut self, idx: &Idx) -> Result<(), AllocError>
+    pub fn index(&mut self, idx: &Idx) -> Result<(), Memory>
         ensures { OnOk result (Wrote self.old.text.items (put_index (index_of idx.now)) self.new.text.items) }
     {
         match idx {
@@ -72,7 +72,7 @@ impl Printer {
 
     /// An index, in parentheses or not.
     #[cycle(printed_index)]
-    fn index_group(&mut self, wrapped: bool, idx: &Idx) -> Result<(), AllocError>
+    fn index_group(&mut self, wrapped: bool, idx: &Idx) -> Result<(), Memory>
         ensures { OnOk result (Wrote self.old.text.items (wrap wrapped (put_index (index_of idx.now))) self.new.text.items) }
     {
         if !wrapped {
@@ -85,7 +85,7 @@ impl Printer {
 
     /// An item of a sum behind its sign: a sum stands in parentheses.
     #[cycle(printed_index)]
-    fn index_item(&mut self, idx: &Idx) -> Result<(), AllocError>
+    fn index_item(&mut self, idx: &Idx) -> Result<(), Memory>
         ensures { OnOk result (Wrote self.old.text.items (wrap (is_index_add (index_of idx.now)) (put_index (index_of idx.now))) self.new.text.items) }
     {
         self.index_group(is_sum(idx), idx)
@@ -93,7 +93,7 @@ impl Printer {
 
     /// A factor, and an exponent: a sum and a product stand in parentheses.
     #[cycle(printed_index)]
-    pub fn index_factor(&mut self, idx: &Idx) -> Result<(), AllocError>
+    pub fn index_factor(&mut self, idx: &Idx) -> Result<(), Memory>
         ensures { OnOk result (Wrote self.old.text.items (put_exponent (index_of idx.now)) self.new.text.items) }
     {
         self.index_group(is_sum_or_product(idx), idx)
@@ -102,7 +102,7 @@ impl Printer {
     /// The items of a sum, each with its sign.
     #[tactic(auto, using(crate::proofs::Writing::index_item_of_out))]
     #[cycle(printed_index)]
-    fn index_items(&mut self, items: &[IdxItem]) -> Result<(), AllocError>
+    fn index_items(&mut self, items: &[IdxItem]) -> Result<(), Memory>
         ensures { OnOk result (Wrote self.old.text.items (put_index_items (index_items (map index_item_of items.now))) self.new.text.items) }
     {
         let Some((first, more)) = items.split_first() else {
@@ -120,7 +120,7 @@ impl Printer {
     /// The factors of a product.
     #[tactic(auto, using(flp_syntax::specs::View::view_equations))]
     #[cycle(printed_index)]
-    fn index_factors(&mut self, factors: &[Idx]) -> Result<(), AllocError>
+    fn index_factors(&mut self, factors: &[Idx]) -> Result<(), Memory>
         ensures { OnOk result (Wrote self.old.text.items (put_index_factors (indices (map index_of factors.now))) self.new.text.items) }
     {
         let Some((first, more)) = factors.split_first() else {
@@ -135,7 +135,7 @@ impl Printer {
     }
 
     /// An index in brackets.
-    pub fn bracketed(&mut self, idx: &Idx) -> Result<(), AllocError>
+    pub fn bracketed(&mut self, idx: &Idx) -> Result<(), Memory>
         ensures { OnOk result (Wrote self.old.text.items (λ s. tokens.Fixed marks.OpenBracket ∷ put_index (index_of idx.now) (tokens.Fixed marks.CloseBracket ∷ s)) self.new.text.items) }
     {
         self.mark(Mark::OpenBracket)?;
@@ -144,7 +144,7 @@ impl Printer {
     }
 
     /// `NAME "in" from ".." to "("`
-    pub fn range(&mut self, name: &[u8], from: &Idx, to: &Idx) -> Result<(), AllocError>
+    pub fn range(&mut self, name: &[u8], from: &Idx, to: &Idx) -> Result<(), Memory>
         ensures { OnOk result (Wrote self.old.text.items (put_range name.now (index_of from.now) (index_of to.now)) self.new.text.items) }
     {
         self.name(name)?;

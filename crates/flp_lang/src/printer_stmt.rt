@@ -5,15 +5,15 @@ ghost use Rattle.flp_syntax.specs.View.{statement_of};
 ghost use Rattle.flp_lang.specs.Print.{put_stmt, put_stmts};
 ghost use Rattle.flp_lang.specs.Written.{Wrote};
 
+use crate::Memory;
 use crate::printer::Printer;
 use flp_syntax::{Mark, Stmt};
-use std::alloc::AllocError;
 
 impl Printer {
     /// A statement.
     #[tactic(auto, using(flp_syntax::specs::View::view_equations))]
     #[cycle(printed_stmt)]
-    fn stmt(&mut self, stmt: &Stmt) -> Result<(), AllocError>
+    fn stmt(&mut self, stmt: &Stmt) -> Result<(), Memory>
         ensures { OnOk result (Wrote self.old.text.items (put_stmt (statement_of stmt.now)) self.new.text.items) }
     {
         match stmt {
@@ -45,7 +45,7 @@ impl Printer {
     /// Statements, one behind the other.
     #[tactic(auto, using(flp_syntax::specs::View::view_equations))]
     #[cycle(printed_stmt)]
-    pub fn stmts(&mut self, stmts: &[Stmt]) -> Result<(), AllocError>
+    pub fn stmts(&mut self, stmts: &[Stmt]) -> Result<(), Memory>
         ensures { OnOk result (Wrote self.old.text.items (put_stmts (statements (map statement_of stmts.now))) self.new.text.items) }
     {
         for stmt in stmts {

@@ -7,13 +7,14 @@ ghost use Rattle.flp_lang.specs.ReadBack.{IsReadBack};
 ghost use Rattle.flp_lang.specs.Spelling.{spelled};
 ghost use Rattle.flp_lang.specs.Written.{Wrote, WroteAll};
 
+use crate::Memory;
 use crate::printer::Printer;
 use flp_syntax::{Body, Circuit, Coef, Decl, KindText, Mark, Params};
-use std::alloc::{AllocError, Global};
+use std::alloc::Global;
 
 impl Printer {
     /// Coefficients, one behind the other.
-    fn coefs(&mut self, coefs: &[Coef]) -> Result<(), AllocError>
+    fn coefs(&mut self, coefs: &[Coef]) -> Result<(), Memory>
         ensures { OnOk result (Wrote self.old.text.items (put_coefs coefs.now) self.new.text.items) }
     {
         for coef in coefs {
@@ -25,7 +26,7 @@ impl Printer {
 
     /// What a gadget computes.
     #[tactic(auto, using(flp_syntax::specs::View::view_equations))]
-    fn kind(&mut self, kind: &KindText) -> Result<(), AllocError>
+    fn kind(&mut self, kind: &KindText) -> Result<(), Memory>
         ensures { OnOk result (Wrote self.old.text.items (put_kind (kind_of kind.now)) self.new.text.items) }
     {
         match kind {
@@ -43,7 +44,7 @@ impl Printer {
     }
 
     /// `"gadget" NAME "=" kind ";"`
-    fn decl(&mut self, decl: &Decl) -> Result<(), AllocError>
+    fn decl(&mut self, decl: &Decl) -> Result<(), Memory>
         ensures { OnOk result (Wrote self.old.text.items (put_decl (declaration_of decl.now)) self.new.text.items) }
     {
         self.mark(Mark::Gadget)?;
@@ -54,7 +55,7 @@ impl Printer {
     }
 
     /// Declarations, one behind the other.
-    fn decls(&mut self, decls: &[Decl]) -> Result<(), AllocError>
+    fn decls(&mut self, decls: &[Decl]) -> Result<(), Memory>
         ensures { OnOk result (Wrote self.old.text.items (put_decls (map declaration_of decls.now)) self.new.text.items) }
     {
         for decl in decls {
@@ -64,7 +65,7 @@ impl Printer {
     }
 
     /// `NAME "=" NUMBER`
-    fn setting(&mut self, name: &[u8], value: u64) -> Result<(), AllocError>
+    fn setting(&mut self, name: &[u8], value: u64) -> Result<(), Memory>
         ensures { OnOk result (Wrote self.old.text.items (put_setting name.now value) self.new.text.items) }
     {
         self.name(name)?;
@@ -73,7 +74,7 @@ impl Printer {
     }
 
     /// A standard circuit behind `use`.
-    fn params(&mut self, params: &Params) -> Result<(), AllocError>
+    fn params(&mut self, params: &Params) -> Result<(), Memory>
         ensures { OnOk result (Wrote self.old.text.items (put_params params.now) self.new.text.items) }
     {
         match params {
@@ -118,7 +119,7 @@ impl Printer {
     }
 
     /// How many encoded and joint words a body has, behind `meas`.
-    fn words(&mut self, meas: u64, joint: u64) -> Result<(), AllocError>
+    fn words(&mut self, meas: u64, joint: u64) -> Result<(), Memory>
         ensures { OnOk result (Wrote self.old.text.items (put_words meas joint) self.new.text.items) }
     {
         self.number(meas)?;
@@ -129,7 +130,7 @@ impl Printer {
     }
 
     /// A body behind `meas`.
-    fn body(&mut self, body: &Body) -> Result<(), AllocError>
+    fn body(&mut self, body: &Body) -> Result<(), Memory>
         ensures { OnOk result (Wrote self.old.text.items (put_body (program_of body.now)) self.new.text.items) }
     {
         self.words(body.meas, body.joint)?;
@@ -138,7 +139,7 @@ impl Printer {
     }
 
     /// All tokens of a circuit.
-    fn circuit(alloc: Global, circuit: &Circuit) -> Result<Printer, AllocError>
+    fn circuit(alloc: Global, circuit: &Circuit) -> Result<Printer, Memory>
         ensures { IfOk result (λ printer. WroteAll (put_text (text_of circuit.now)) printer.text.items) }
     {
         match circuit {
@@ -161,7 +162,7 @@ impl Printer {
 /// Parentheses stand round a sum that is an item or a factor, round a product that is a factor, and round a sum, product or
 /// power that is a base; in an index, round a sum that is an item, a factor or an exponent, and round a product that is a
 /// factor or an exponent. Elsewhere there are none but those that the grammar always has.
-pub fn print(alloc: Global, circuit: &Circuit) -> Result<Vec<u8>, AllocError>
+pub fn print(alloc: Global, circuit: &Circuit) -> Result<Vec<u8>, Memory>
     ensures text { IfOk result (λ text. text.items ≡ spelled (printed_tokens (text_of circuit.now))) }
     ensures read_back { IfOk result (λ text. (source : List ℕ) → IsParsed source (text_of circuit.now) → length text.items ≤ 65536 → IsReadBack (text_of circuit.now) text.items) }
 {

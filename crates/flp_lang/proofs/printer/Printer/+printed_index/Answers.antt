@@ -1,4 +1,4 @@
-use Rattle.std.proofs.Common.{rules, ◌≡◌, ap, ◌∙◌, map, ◌++◌, ◌+◌, drop}
+use Rattle.std.proofs.Common.{◌≡◌, ap, ◌∙◌, map, ◌++◌, ◌+◌, drop}
 use Rattle.flp_syntax.specs.Tree.{index_add, index_items}
 use Rattle.flp_syntax.specs.View.{index_of, index_item_of, index_of_Add}
 use Rattle.std.proofs.lemmas.List.{drop_all}
