@@ -1,4 +1,4 @@
--- How tokens are written: from a list of them down to its parts.
+-- How tokens are written: each by itself, and then a list of them.
 use Rattle.std.specs.Prelude.{ℕ, List, [], ◌∷◌, ◌++◌, codes, decimal}
 use Rattle.flp_syntax.specs.declared.token.Token.{Token}
 use Rattle.flp_syntax.specs.declared.token.Token.TheVariants.{Number, Name, Fixed}
