@@ -162,6 +162,9 @@ impl Printer {
 /// Parentheses stand round a sum that is an item or a factor, round a product that is a factor, and round a sum, product or
 /// power that is a base; in an index, round a sum that is an item, a factor or an exponent, and round a product that is a
 /// factor or an exponent. Elsewhere there are none but those that the grammar always has.
+///
+/// Where a text was parsed to the circuit and the printed text has at most 65,536 bytes, it is parsed to the same circuit
+/// but for the token numbers. There is no error but want of memory.
 pub fn print(alloc: Global, circuit: &Circuit) -> Result<Vec<u8>, Memory>
     ensures text { IfOk result (λ text. text.items ≡ spelled (printed_tokens (text_of circuit.now))) }
     ensures read_back { IfOk result (λ text. (source : List ℕ) → IsParsed source (text_of circuit.now) → length text.items ≤ 65536 → IsReadBack (text_of circuit.now) text.items) }
