@@ -1,0 +1,9 @@
+//! Which circuit bodies are circuits.
+#![tactic(auto)]
+
+mod flaw;
+mod limits;
+mod scope;
+mod shared;
+mod text;
+
