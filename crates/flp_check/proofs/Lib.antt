@@ -1,3 +1,5 @@
 pub mod Rests
 pub mod Sorting
 pub mod Finding
+pub mod Walking
+pub mod Nodes

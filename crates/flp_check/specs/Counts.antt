@@ -21,19 +21,24 @@ meet counts (gadget_call gadget) = if nat_lt (slice_index counts.calls gadget) 4
 meet counts a_check = if nat_lt counts.checks 65536 then Ok (record counts { checks = suc counts.checks }) else Err (Limit counted.Checks 65537)
 meet counts an_out = if nat_lt counts.outs 65536 then Ok (record counts { outs = suc counts.outs }) else Err (Limit counted.Outs 65537)
 
+-- goes on where there is no fault
 abbrev pub go_on : {A B : Type 0} → Result A LangFault → (A → Result B LangFault) → Result B LangFault
 go_on (Ok value) next = next value
 go_on (Err fault) next = Err fault
 
 -- the counts after events, or the first fault among them
-unfoldable pub walk : Counts → List Event → Result Counts LangFault
+abbrev pub walk : Counts → List Event → Result Counts LangFault
 walk counts [] = Ok counts
 walk counts (event ∷ more) = go_on (meet counts event) (λ after. walk after more)
 
--- a walk that ends with a fault, want of memory aside
-abbrev pub Stops : Result Counts LangFault → LangFault → Type 0
-Stops walked fault = fault ≢ Memory → walked ≡ Err fault
+-- events without a fault, and the counts after them
+pub record Reaches (before : Counts) (events : List Event) (after : Counts) : Type 0 where
+  pub is : walk before events ≡ Ok after
+
+-- events with a fault, the first among them; where memory is wanting, nothing is said
+pub record Stops (before : Counts) (events : List Event) (fault : LangFault) : Type 0 where
+  pub is : fault ≢ Memory → walk before events ≡ Err fault
 
 -- what a part of the walk answers: the counts after its events, or the first fault among them
 abbrev pub Walks : {A : Type 0} → Counts → List Event → Result A LangFault → Counts → Type 0
-Walks before events result after = MatchResult result (λ _. walk before events ≡ Ok after) (Stops (walk before events))
+Walks before events result after = MatchResult result (λ _. Reaches before events after) (λ fault. Stops before events fault)

@@ -24,6 +24,15 @@ not_below at front value = if nat_le value front then [] else bad_index at ∷ [
 abbrev pub in_words : ℕ → ℕ → ℕ → List Event
 in_words at value words = if nat_lt value words then [] else bad_index at ∷ []
 
+-- the value of an index's sum after an item
+abbrev pub moved : Bool → ℕ → ℕ → ℕ
+moved true front value = front - value
+moved false front value = front + value
+
+abbrev pub step_events : ℕ → Bool → ℕ → ℕ → List Event
+step_events at true front value = not_below at front value
+step_events at false front value = in_range at (front + value)
+
 -- an index: the values of its parts, and that of a sum or a product after each of its items or factors
 abbrev mutual
   pub index_events : Scope → Index → List Event
@@ -35,13 +44,16 @@ abbrev mutual
   -- the items of a sum whose front has this value
   pub sum_events : Scope → ℕ → ℕ → IndexItems → List Event
   sum_events scope at front no_index_items = []
-  sum_events scope at front (index_item_on true index more) = index_events scope index ++ (not_below at front (index_value scope index) ++ sum_events scope at (front - index_value scope index) more)
-  sum_events scope at front (index_item_on false index more) = index_events scope index ++ (in_range at (front + index_value scope index) ++ sum_events scope at (front + index_value scope index) more)
+  sum_events scope at front (index_item_on minus index more) = index_events scope index ++ (step_events at minus front (index_value scope index) ++ sum_events scope at (moved minus front (index_value scope index)) more)
 
   -- the factors of a product whose front has this value
   pub product_events : Scope → ℕ → ℕ → Indices → List Event
   product_events scope at front no_indices = []
   product_events scope at front (index_on index more) = index_events scope index ++ (in_range at (front * index_value scope index) ++ product_events scope at (front * index_value scope index) more)
+
+-- the bounds of a loop, once before its turns
+abbrev pub range_events : Scope → Index → Index → List Event
+range_events scope from to = index_events scope from ++ index_events scope to
 
 -- the number of arguments, loops unrolled
 abbrev mutual
@@ -71,7 +83,7 @@ abbrev mutual
   tree_events body scope (joint at index) = visit ∷ (index_events scope index ++ in_words at (index_value scope index) body.joint)
   tree_events body scope (meas at index) = visit ∷ (index_events scope index ++ in_words at (index_value scope index) body.meas)
   tree_events body scope (meas_or_zero at index) = visit ∷ index_events scope index
-  tree_events body scope (sum at name from to inner) = visit ∷ (index_events scope from ++ (index_events scope to ++ flat_map (λ value. tree_events body (inside scope name value) inner) (turns (index_value scope from) (index_value scope to))))
+  tree_events body scope (sum at name from to inner) = visit ∷ (range_events scope from to ++ flat_map (λ value. tree_events body (inside scope name value) inner) (turns (index_value scope from) (index_value scope to)))
   tree_events body scope (call at name args) = visit ∷ (args_events body scope args ++ call_events body.gadgets at (gadget_number body.gadgets name) (args_count scope args))
   tree_events body scope (add at items) = visit ∷ items_events body scope items
   tree_events body scope (mul at factors) = visit ∷ factors_events body scope factors
@@ -87,7 +99,7 @@ abbrev mutual
 
   pub arg_events : Program → Scope → Argument → List Event
   arg_events body scope (one expr) = tree_events body scope expr
-  arg_events body scope (each_arg at name from to inner) = visit ∷ (index_events scope from ++ (index_events scope to ++ flat_map (λ value. args_events body (inside scope name value) inner) (turns (index_value scope from) (index_value scope to))))
+  arg_events body scope (each_arg at name from to inner) = visit ∷ (range_events scope from to ++ flat_map (λ value. args_events body (inside scope name value) inner) (turns (index_value scope from) (index_value scope to)))
 
   pub args_events : Program → Scope → Arguments → List Event
   args_events body scope no_args = []
@@ -98,7 +110,7 @@ abbrev mutual
   pub stmt_events : Program → Scope → Statement → List Event
   stmt_events body scope (check at expr) = visit ∷ a_check ∷ tree_events body scope expr
   stmt_events body scope (out at expr) = visit ∷ an_out ∷ tree_events body scope expr
-  stmt_events body scope (each at name from to inner) = visit ∷ (index_events scope from ++ (index_events scope to ++ flat_map (λ value. stmts_events body (inside scope name value) inner) (turns (index_value scope from) (index_value scope to))))
+  stmt_events body scope (each at name from to inner) = visit ∷ (range_events scope from to ++ flat_map (λ value. stmts_events body (inside scope name value) inner) (turns (index_value scope from) (index_value scope to)))
 
   pub stmts_events : Program → Scope → Statements → List Event
   stmts_events body scope no_stmts = []

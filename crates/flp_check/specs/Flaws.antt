@@ -46,6 +46,10 @@ abbrev mutual
   indices_flaws names no_indices = []
   indices_flaws names (index_on index more) = index_flaws names index ++ indices_flaws names more
 
+-- the name and the bounds of a loop; the bounds stand outside it
+abbrev pub range_flaws : List Declaration → Names → ℕ → List ℕ → Index → Index → List Flaw
+range_flaws gadgets names at name from to = taken gadgets names at name ++ (index_flaws names from ++ index_flaws names to)
+
 -- the flaws of an expression; `in_out` says whether it stands inside an output
 abbrev mutual
   pub tree_flaws : List Declaration → Names → Bool → Tree → List Flaw
@@ -54,7 +58,7 @@ abbrev mutual
   tree_flaws gadgets names in_out (joint at index) = flaw_if in_out at NotLinear ++ index_flaws names index
   tree_flaws gadgets names in_out (meas at index) = index_flaws names index
   tree_flaws gadgets names in_out (meas_or_zero at index) = index_flaws names index
-  tree_flaws gadgets names in_out (sum at name from to inner) = taken gadgets names at name ++ (index_flaws names from ++ (index_flaws names to ++ tree_flaws gadgets (names ++ name ∷ []) in_out inner))
+  tree_flaws gadgets names in_out (sum at name from to inner) = range_flaws gadgets names at name from to ++ tree_flaws gadgets (names ++ name ∷ []) in_out inner
   tree_flaws gadgets names in_out (call at name args) = flaw_if (not (is_gadget gadgets name)) at Name ++ (flaw_if in_out at NotLinear ++ args_flaws gadgets names in_out args)
   tree_flaws gadgets names in_out (add at items) = items_flaws gadgets names in_out (in_out && has_shared_item items) items
   tree_flaws gadgets names in_out (mul at factors) = factors_flaws gadgets names in_out false factors
@@ -72,7 +76,7 @@ abbrev mutual
 
   pub arg_flaws : List Declaration → Names → Bool → Argument → List Flaw
   arg_flaws gadgets names in_out (one expr) = tree_flaws gadgets names in_out expr
-  arg_flaws gadgets names in_out (each_arg at name from to inner) = taken gadgets names at name ++ (index_flaws names from ++ (index_flaws names to ++ args_flaws gadgets (names ++ name ∷ []) in_out inner))
+  arg_flaws gadgets names in_out (each_arg at name from to inner) = range_flaws gadgets names at name from to ++ args_flaws gadgets (names ++ name ∷ []) in_out inner
 
   pub args_flaws : List Declaration → Names → Bool → Arguments → List Flaw
   args_flaws gadgets names in_out no_args = []
@@ -83,7 +87,7 @@ abbrev mutual
   pub stmt_flaws : List Declaration → Names → Statement → List Flaw
   stmt_flaws gadgets names (check at expr) = tree_flaws gadgets names false expr
   stmt_flaws gadgets names (out at expr) = flaw_if (not (is_shared expr)) (tree_at expr) NotLinear ++ tree_flaws gadgets names true expr
-  stmt_flaws gadgets names (each at name from to inner) = taken gadgets names at name ++ (index_flaws names from ++ (index_flaws names to ++ stmts_flaws gadgets (names ++ name ∷ []) inner))
+  stmt_flaws gadgets names (each at name from to inner) = range_flaws gadgets names at name from to ++ stmts_flaws gadgets (names ++ name ∷ []) inner
 
   pub stmts_flaws : List Declaration → Names → Statements → List Flaw
   stmts_flaws gadgets names no_stmts = []

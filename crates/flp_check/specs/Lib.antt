@@ -3,4 +3,4 @@ pub mod Flaws
 pub mod Events
 pub mod Counts
 pub mod Verdict
-pub mod Scopes
+pub mod Held

@@ -1,6 +1,7 @@
 //! Faults of names and sorts, and the first of them.
-ghost use Rattle.std.specs.Prelude.{◌≡◌, nat_lt};
-ghost use Rattle.flp_check.specs.Flaws.{earlier_of, first_flaw, flaw_if, order_of};
+ghost use Rattle.std.specs.Prelude.{◌≡◌, nat_lt, suc, Some};
+ghost use Rattle.flp_check.specs.Flaws.{earlier_of, flaw_if, order_of, Finds};
+ghost use Rattle.flp_check.specs.declared.flaw.Rule.TheVariants.{Twice};
 
 /// A fault of names or sorts: where it is, by the number of a token, and which rule it breaks.
 #[derive(Debug, Clone, Copy)]
@@ -36,14 +37,10 @@ pub struct Found {
 }
 
 impl Found {
-    /// Notes a flaw, where there is one.
-    pub fn note(&mut self, flawed: bool, at: u64, rule: Rule)
-        ensures { self.new.first ≡ earlier_of self.old.first (first_flaw (flaw_if flawed at rule)) }
+    /// Keeps the first of the flaw and the one so far.
+    fn keep(&mut self, flaw: Flaw)
+        ensures { self.new.first ≡ earlier_of self.old.first (Some flaw) }
     {
-        if !flawed {
-            return;
-        }
-        let flaw = Flaw { at, rule };
         match self.first {
             Some(first) => {
                 if flaw.is_before(&first) {
@@ -51,6 +48,27 @@ impl Found {
                 }
             }
             None => self.first = Some(flaw),
+        }
+    }
+
+    /// Notes that a rule is broken at a token, where it is.
+    pub fn note(&mut self, flawed: bool, at: u32, rule: Rule)
+        ensures { Finds self.old.first (flaw_if flawed at rule) self.new.first }
+    {
+        if flawed {
+            let at = u64::from(at);
+            self.keep(Flaw { at, rule });
+        }
+    }
+
+    /// Notes that a name is taken, where it is: the token after this one.
+    pub fn note_name(&mut self, flawed: bool, at: u32)
+        ensures { Finds self.old.first (flaw_if flawed (suc at) Twice) self.new.first }
+    {
+        if flawed {
+            let at = u64::from(at) + 1;
+            let rule = Rule::Twice;
+            self.keep(Flaw { at, rule });
         }
     }
 }

@@ -1,11 +1,12 @@
 //! The loops round a place, and the gadgets, by their names.
-ghost use Rattle.std.specs.Prelude.{◌≡◌, ◌++◌, ◌∷◌, [], map, IfOk};
+ghost use Rattle.std.specs.Prelude.{◌≡◌, ◌<◌, ◌++◌, ◌∷◌, [], length, map, IfOk, IfSome};
 ghost use Rattle.flp_syntax.specs.Scope.{bound_value, gadget_number};
 ghost use Rattle.flp_syntax.specs.View.{declaration_of};
 ghost use Rattle.flp_check.specs.Flaws.{has_name};
-ghost use Rattle.flp_check.specs.Scopes.{scope_of, names_of};
+ghost use Rattle.flp_check.specs.Held.{scope_of, names_of};
 
-use flp_syntax::Decl;
+use flp_list::Bytes;
+use flp_syntax::{Decl, Idx};
 use std::alloc::{AllocError, Global};
 
 /// A loop's variable and its value at this turn.
@@ -13,6 +14,15 @@ use std::alloc::{AllocError, Global};
 pub struct Bound<'a> {
     pub name: &'a [u8],
     pub value: u32,
+}
+
+/// What a loop goes over: its variable and its bounds.
+#[derive(Clone, Copy)]
+pub struct Loop<'a> {
+    pub at: u32,
+    pub name: &'a Bytes,
+    pub from: &'a Idx,
+    pub to: &'a Idx,
 }
 
 /// The value of a loop's variable; 0 where the name is none.
@@ -54,7 +64,8 @@ pub fn names_inside<'a>(
 
 /// The number of the first gadget of this name.
 pub fn gadget_number(gadgets: &[Decl], name: &[u8]) -> Option<usize>
-    ensures { result ≡ gadget_number (map declaration_of gadgets.now) name.now }
+    ensures first { result ≡ gadget_number (map declaration_of gadgets.now) name.now }
+    ensures within { IfSome result (λ number. number < length gadgets.now) }
 {
     for (number, decl) in gadgets.iter().enumerate() {
         if decl.name.as_slice() == name {

@@ -1,6 +1,6 @@
 use Rattle.std.proofs.Common.{◌≡◌, drop}
 use Rattle.flp_syntax.specs.Scope.{bound_value}
-use Rattle.flp_check.specs.Scopes.{scope_of}
+use Rattle.flp_check.specs.Held.{scope_of}
 use Rattle.flp_check.proofs.scope.bound_value.Given as goal
 
 -- the name is none of those so far
