@@ -71,3 +71,22 @@ turns_next f i to h = let e : to - i ≡ suc (to - (i + 1)) = omega arith in let
 
 pub turns_end : (f : ℕ → List Event) (i to : ℕ) → to ≤ i → flat_map f (numbers_from i (to - i)) ≡ []
 turns_end f i to h = let e : to - i ≡ 0 = omega arith in rw e refl
+
+-- a turn of a loop, and the end of the turns
+pub leads_turn : (f : ℕ → List Event) (i to : ℕ) {here next start : Counts} {all : List Event} → i < to → Leads here (flat_map f (numbers_from i (to - i))) start all → Reaches here (f i) next → Leads next (flat_map f (numbers_from (i + 1) (to - (i + 1)))) start all
+leads_turn f i to h leads reaches = leads_on (leads_same (turns_next f i to h) leads) reaches
+
+pub leads_turn_stop : (f : ℕ → List Event) (i to : ℕ) {here start : Counts} {all : List Event} {fault : LangFault} → i < to → Leads here (flat_map f (numbers_from i (to - i))) start all → Stops here (f i) fault → Stops start all fault
+leads_turn_stop f i to h leads stops = leads_stop (leads_same (turns_next f i to h) leads) (stops_front _ stops)
+
+pub leads_turns : (f : ℕ → List Event) (i to : ℕ) {here start : Counts} {all : List Event} → to ≤ i → Leads here (flat_map f (numbers_from i (to - i))) start all → Reaches start all here
+leads_turns f i to h leads = leads_reach (leads_same (turns_end f i to h) leads) (reaches_none _)
+
+-- what holds before a walk and is kept by each event holds after it
+pub go_on_ok : {A B : Type 0} (r : Result A LangFault) (f : A → Result B LangFault) (b : B) → go_on r f ≡ Ok b → (a : A) × (r ≡ Ok a) × (f a ≡ Ok b)
+go_on_ok (Ok a) f b h = (a, refl, h)
+go_on_ok (Err fault) f b h = cc
+
+pub walk_keeps : (P : Counts → Type 0) → ((a : Counts) (e : Event) (b : Counts) → P a → meet a e ≡ Ok b → P b) → (es : List Event) (a b : Counts) → P a → walk a es ≡ Ok b → P b
+walk_keeps P step [] a b p h = let e : a ≡ b = cc in subst P e p
+walk_keeps P step (x ∷ xs) a b p h = let m = go_on_ok (meet a x) (λ c. walk c xs) b h in walk_keeps P step xs m.0 b (step a x m.0 p m.1) m.2

@@ -1,5 +1,5 @@
 //! What unrolling a body meets.
-ghost use Rattle.std.specs.Prelude.{◌≡◌, ◌<◌, ◌≤◌, ◌+◌, ◌*◌, ◌++◌, ◌∷◌, [], suc, length, map, IfOk, sum_by};
+ghost use Rattle.std.specs.Prelude.{◌≡◌, ◌<◌, ◌≤◌, ◌+◌, ◌*◌, ◌==◌, ◌++◌, ◌∷◌, [], length, map, IfOk, sum_by};
 ghost use Rattle.std.specs.List.{flat_map};
 ghost use Rattle.flp_syntax.specs.Tree as tree;
 ghost use Rattle.flp_syntax.specs.Scope.{index_value, sum_from, product_from, inside, turns, gadget_number};
@@ -131,6 +131,14 @@ fn arity_at(gadgets: &[Decl], gadget: usize) -> u64
     arity(&gadgets[gadget].kind)
 }
 
+/// Whether a gadget has this many inputs.
+fn takes(gadgets: &[Decl], gadget: usize, count: u32) -> bool
+    requires { gadget < length gadgets.now }
+    ensures { result ≡ (arity_at (map declaration_of gadgets.now) gadget == count) }
+{
+    arity_at(gadgets, gadget) == count as u64
+}
+
 impl Unroller<'_> {
     /// After the arguments of a call: the gadget's call, where their number is its arity.
     fn gadget(&self, at: u32, name: &Bytes, count: u32, counter: &mut Counter) -> Result<(), LangFault>
@@ -139,10 +147,11 @@ impl Unroller<'_> {
         let gadgets = self.body.gadgets.as_slice();
         match gadget_number(gadgets, name.as_slice()) {
             Some(gadget) => {
-                if arity_at(gadgets, gadget) != count as u64 {
-                    return Err(LangFault::Arity(at));
+                if takes(gadgets, gadget, count) {
+                    counter.call(gadget)
+                } else {
+                    Err(LangFault::Arity(at))
                 }
-                counter.call(gadget)
             }
             None => Ok(()),
         }
@@ -207,7 +216,7 @@ impl Unroller<'_> {
         for value in from..to {
             within.push(Bound { name, value })?;
             self.expr(&within, inner, counter)?;
-            within.pop();
+            within.truncate(scope.len());
         }
         Ok(())
     }
@@ -253,6 +262,8 @@ impl Unroller<'_> {
         let mut count = 0;
         for arg in args {
             let more = self.arg(scope, arg, counter)?;
+            // each argument met a node, so their number fits as that of the nodes does
+            let _met = counter.visits;
             count += more;
         }
         Ok(count)
@@ -301,8 +312,10 @@ impl Unroller<'_> {
         for value in from..to {
             within.push(Bound { name, value })?;
             let more = self.args(&within, inner, counter)?;
+            // each argument met a node, so their number fits as that of the nodes does
+            let _met = counter.visits;
             count += more;
-            within.pop();
+            within.truncate(scope.len());
         }
         Ok(count)
     }
@@ -357,7 +370,7 @@ impl Unroller<'_> {
         for value in from..to {
             within.push(Bound { name, value })?;
             self.stmts(&within, inner, counter)?;
-            within.pop();
+            within.truncate(scope.len());
         }
         Ok(())
     }

@@ -1,6 +1,7 @@
 use Rattle.flp_syntax.specs.View.{index_of_Number, index_of_Var, index_of_Add, index_of_Mul}
-use Rattle.flp_check.proofs.Walking.{walks_more, handed_on}
-use Rattle.flp_check.proofs.Nodes.{index_stops}
+use Rattle.flp_check.proofs.Rests.{rest_indices, rest_index_items}
+use Rattle.flp_check.proofs.Walking.{walks_more, handed_on, leads_on, leads_stop, stops_front, stops_back}
+use Rattle.flp_check.proofs.Nodes.{index_stops, sum_from-on}
 use Rattle.flp_check.proofs.counter.Counter.+index.Goals as goal
 
 pub index-returns-in_err-visit-clause-walked : goal.index-returns-in_err-visit-clause-walked
@@ -33,3 +34,45 @@ index-returns-in-Mul-clause-walked t c = rw (c.in-Mul.is, index_of_Mul, ← c.as
 
 pub index-returns-in-Mul-clause-value : goal.index-returns-in-Mul-clause-value
 index-returns-in-Mul-clause-value t c = rw (c.in-Mul.is, index_of_Mul, ← c.as_slice-in-Mul.ensures) c.product.ensures.value
+
+pub sum-loop-item-preserved : goal.sum-loop-item-preserved
+sum-loop-item-preserved t c =
+    let left = rw (rest_index_items _ _ c.item-item.result c.loop-item-test.true c.item-item.is) at c.loop-item.invariant.walked in
+    let value = rw (rest_index_items _ _ c.item-item.result c.loop-item-test.true c.item-item.is, sum_from-on) at c.loop-item.invariant.value in
+    let step = rw c.in_ok-value.ensures.value at c.in_ok-next.ensures.walked in
+    record {
+      walked = rw (c.in_ok-next.ensures.value, c.in_ok-value.ensures.value) (leads_on (leads_on left c.in_ok-value.ensures.walked) (step _));
+      value = rw (c.in_ok-next.ensures.value, c.in_ok-value.ensures.value) value;
+    }
+
+pub sum-returns-in_err-value-clause-walked : goal.sum-returns-in_err-value-clause-walked
+sum-returns-in_err-value-clause-walked t c =
+    let left = rw (rest_index_items _ _ c.item-item.result c.loop-item-test.true c.item-item.is) at c.loop-item.invariant.walked in
+    handed_on _ _ c.from_residual.ensures (leads_stop left (stops_front _ c.in_err-value.ensures.walked))
+
+pub sum-returns-in_err-next-clause-walked : goal.sum-returns-in_err-next-clause-walked
+sum-returns-in_err-next-clause-walked t c =
+    let left = rw (rest_index_items _ _ c.item-item.result c.loop-item-test.true c.item-item.is) at c.loop-item.invariant.walked in
+    let step = rw c.in_ok-value.ensures.value at c.in_err-next.ensures.walked in
+    handed_on _ _ c.from_residual-in_err-next.ensures (leads_stop left (stops_back c.in_ok-value.ensures.walked (stops_front _ (step _))))
+
+pub product-loop-factor-preserved : goal.product-loop-factor-preserved
+product-loop-factor-preserved t c =
+    let left = rw (rest_indices _ _ c.factor-item.result c.loop-factor-test.true c.factor-item.is) at c.loop-factor.invariant.walked in
+    let value = rw (rest_indices _ _ c.factor-item.result c.loop-factor-test.true c.factor-item.is) at c.loop-factor.invariant.value in
+    let step = rw c.in_ok-value.ensures.value at c.in_ok-next.ensures.walked in
+    record {
+      walked = rw (c.in_ok-next.ensures.value, c.in_ok-value.ensures.value) (leads_on (leads_on left c.in_ok-value.ensures.walked) (step _));
+      value = rw (c.in_ok-next.ensures.value, c.in_ok-value.ensures.value) value;
+    }
+
+pub product-returns-in_err-value-clause-walked : goal.product-returns-in_err-value-clause-walked
+product-returns-in_err-value-clause-walked t c =
+    let left = rw (rest_indices _ _ c.factor-item.result c.loop-factor-test.true c.factor-item.is) at c.loop-factor.invariant.walked in
+    handed_on _ _ c.from_residual.ensures (leads_stop left (stops_front _ c.in_err-value.ensures.walked))
+
+pub product-returns-in_err-next-clause-walked : goal.product-returns-in_err-next-clause-walked
+product-returns-in_err-next-clause-walked t c =
+    let left = rw (rest_indices _ _ c.factor-item.result c.loop-factor-test.true c.factor-item.is) at c.loop-factor.invariant.walked in
+    let step = rw c.in_ok-value.ensures.value at c.in_err-next.ensures.walked in
+    handed_on _ _ c.from_residual-in_err-next.ensures (leads_stop left (stops_back c.in_ok-value.ensures.walked (stops_front _ (step _))))
