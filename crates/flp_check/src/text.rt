@@ -181,12 +181,7 @@ impl Search<'_> {
                 inner,
                 found,
             ),
-            Expr::Call { at, name, args } => {
-                self.called(*at, name, found);
-                found.note(place.in_out, *at, Rule::NotLinear);
-                self.args(place, args.as_slice(), found)?;
-                Ok(())
-            }
+            Expr::Call { at, name, args } => self.call(place, *at, name, args.as_slice(), found),
             Expr::Add { items, .. } => {
                 let items = items.as_slice();
                 let mixed = is_mixed(place.in_out, items);
@@ -195,6 +190,24 @@ impl Search<'_> {
             Expr::Mul { factors, .. } => self.factors(place, factors.as_slice(), found),
             Expr::Pow { at, base, exponent } => self.pow(place, *at, base, exponent, found),
         }
+    }
+
+    /// A call.
+    #[cycle(expr)]
+    fn call<'a>(
+        &self,
+        place: Place<'a, '_>,
+        at: u32,
+        name: &Bytes,
+        args: &'a [Arg],
+        found: &mut Found,
+    ) -> Result<(), AllocError>
+        ensures { IfOk result (λ _. Finds found.old.first (tree_flaws (map declaration_of self.now.gadgets.now) (names_of place.entry.names.now) place.entry.in_out (tree.call at name.now (tree.arguments (map arg_of args.entry.now)))) found.new.first) }
+    {
+        self.called(at, name, found);
+        found.note(place.in_out, at, Rule::NotLinear);
+        self.args(place, args, found)?;
+        Ok(())
     }
 
     /// A power.

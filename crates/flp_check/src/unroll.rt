@@ -322,7 +322,7 @@ impl Unroller<'_> {
 
     /// Statements.
     #[cycle(stmt)]
-    fn stmts<'a>(&self, scope: &[Bound<'a>], stmts: &'a [Stmt], counter: &mut Counter) -> Result<(), LangFault>
+    pub fn stmts<'a>(&self, scope: &[Bound<'a>], stmts: &'a [Stmt], counter: &mut Counter) -> Result<(), LangFault>
         ensures { Walks (counts_of counter.old) (stmts_events (program_of self.now.body.now) (scope_of scope.now) (tree.statements (map statement_of stmts.entry.now))) result (counts_of counter.new) }
     {
         for stmt in stmts {

@@ -46,8 +46,11 @@ expr-returns-in-MeasOrZero t c = rw (c.in-MeasOrZero.is, tree_of_MeasOrZero) c.i
 pub expr-returns-in-Sum : goal.expr-returns-in-Sum
 expr-returns-in-Sum t c = rw (c.in-Sum.is, tree_of_Sum, ← c.deref.ensures) c.sum.ensures
 
-pub expr-returns-in_ok-args-in-Call : goal.expr-returns-in_ok-args-in-Call
-expr-returns-in_ok-args-in-Call t c = rw (c.in-Call.is, tree_of_Call, ← c.as_slice.ensures) (finds_more c.called.ensures (finds_more c.note-in-Call.ensures c.in_ok-args-in-Call.ensures))
+pub expr-returns-in-Call : goal.expr-returns-in-Call
+expr-returns-in-Call t c = rw (c.in-Call.is, tree_of_Call, ← c.as_slice.ensures) c.call.ensures
+
+pub call-returns : goal.call-returns
+call-returns t c = finds_more c.called.ensures (finds_more c.note.ensures c.in_ok-args.ensures)
 
 pub expr-returns-in-Add : goal.expr-returns-in-Add
 expr-returns-in-Add t c =
