@@ -1,5 +1,5 @@
 -- Where unrolling meets no fault and no name is at fault, each part fits.
-use Rattle.std.proofs.Common.{◌≡◌, ◌≢◌, ℕ, zero, suc, ◌+◌, ◌-◌, ◌*◌, ◌<◌, ◌≤◌, Bool, true, false, cond, ◌&&◌, ◌||◌, leb, ltb, eqb, List, [], ◌∷◌, ◌++◌, Option, None, Some, Result, Ok, Err, map, refl, sym, ap, subst, ◌∙◌, ⊎_elim, arith}
+use Rattle.std.proofs.Common.{◌≡◌, ◌≢◌, ℕ, zero, suc, ◌+◌, ◌-◌, ◌*◌, ◌<◌, ◌≤◌, Bool, true, false, cond, ◌&&◌, ◌||◌, leb, ltb, eqb, List, [], ◌∷◌, ◌++◌, Option, None, Some, Ok, refl, sym, subst, ⊎_elim, arith}
 use Rattle.std.specs.List.{flat_map}
 use Rattle.std.specs.Prelude.{not, is_some}
 use Rattle.std.proofs.lemmas.List.{map-append}
@@ -8,10 +8,9 @@ use Rattle.std.proofs.lemmas.Bool.Decides.{nat_tests}
 use Rattle.flp_syntax.specs.Tree.{Index, index_number, index_var, index_add, index_mul, IndexItems, no_index_items, index_item_on, Indices, no_indices, index_on, Tree, number, var, joint, meas, meas_or_zero, sum, call, add, mul, pow, Items, no_items, item_on, Trees, no_trees, tree_on, Argument, one, each_arg, Arguments, no_args, arg_on, Statement, check, out, each, Statements, no_stmts, stmt_on, Declaration, Program, tree_at}
 use Rattle.flp_syntax.specs.Scope.{Scope, Bound, inside, bound_value, index_value, numbers_from, gadget_number}
 use Rattle.flp_syntax.specs.Sorts.{is_shared, has_shared_item}
-use Rattle.flp_syntax.specs.declared.fault.LangFault.{LangFault}
 use Rattle.flp_check.specs.declared.flaw.Flaw.{Flaw}
 use Rattle.flp_check.specs.declared.flaw.Rule.{Rule}
-use Rattle.flp_check.specs.declared.flaw.Rule.TheVariants.{Name, Twice, NotLinear}
+use Rattle.flp_check.specs.declared.flaw.Rule.TheVariants.{Name, NotLinear}
 use Rattle.flp_check.specs.Flaws.{Names, has_name, is_gadget, flaw_if, taken, index_flaws, index_items_flaws, indices_flaws, range_flaws, tree_flaws, items_flaws, factors_flaws, arg_flaws, args_flaws, stmt_flaws, stmts_flaws}
 use Rattle.flp_check.specs.Events.{Event, visit, bad_index, bad_arity, gadget_call, a_check, an_out, in_range, not_below, in_words, step_events, index_events, sum_events, product_events, range_events, call_events, arity_at, args_count, tree_events, items_events, factors_events, arg_events, args_events, stmt_events, stmts_events}
 use Rattle.flp_check.specs.Counts.{Counts, meet, walk}
@@ -65,11 +64,11 @@ sound_turns f (suc n) i h v low high =
     let P : ℕ → Type 0 = λ w. AllSound (f w) in
     ⊎_elim (λ (e : v ≡ i). subst P (sym e) both.0) (λ (ne : v ≢ i). sound_turns f n (suc i) both.1 v (omega arith) (omega arith)) (cases_eq v i)
 
-nil_both : (xs ys : List Flaw) → xs ++ ys ≡ [] → (xs ≡ []) × (ys ≡ [])
+pub nil_both : (xs ys : List Flaw) → xs ++ ys ≡ [] → (xs ≡ []) × (ys ≡ [])
 nil_both [] ys h = (refl, h)
 nil_both (x ∷ xs) ys h = cc
 
-no_flaw : (b : Bool) (at : ℕ) (rule : Rule) → flaw_if (not b) at rule ≡ [] → b ≡ true
+pub no_flaw : (b : Bool) (at : ℕ) (rule : Rule) → flaw_if (not b) at rule ≡ [] → b ≡ true
 no_flaw true at rule h = refl
 no_flaw false at rule h = cc
 

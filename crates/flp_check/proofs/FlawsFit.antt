@@ -1,6 +1,6 @@
 -- In a well-formed body every flaw is at a token whose number fits 32 bits.
-use Rattle.std.proofs.Common.{◌≡◌, ℕ, suc, ◌+◌, ◌*◌, ◌<◌, ◌≤◌, ◌^◌, Bool, true, false, cond, ◌&&◌, ◌||◌, List, [], ◌∷◌, ◌++◌, Option, None, Some, refl, subst, sym, arith}
-use Rattle.std.specs.Prelude.{IfSome, not}
+use Rattle.std.proofs.Common.{◌≡◌, ℕ, suc, ◌<◌, ◌^◌, Bool, true, false, cond, ◌&&◌, ◌||◌, List, [], ◌∷◌, ◌++◌, Option, None, Some, subst, arith}
+use Rattle.std.specs.Prelude.{IfSome}
 use Rattle.flp_syntax.specs.Tree.{Index, index_number, index_var, index_add, index_mul, IndexItems, no_index_items, index_item_on, Indices, no_indices, index_on, Tree, number, var, joint, meas, meas_or_zero, sum, call, add, mul, pow, Items, no_items, item_on, Trees, no_trees, tree_on, Argument, one, each_arg, Arguments, no_args, arg_on, Statement, check, out, each, Statements, no_stmts, stmt_on, Declaration, Program, tree_at}
 use Rattle.flp_syntax.specs.Sorts.{is_shared, has_shared_item}
 use Rattle.flp_syntax.specs.WellFormed.{IndexIsWell, IndexItemsAreWell, IndicesAreWell, TreeIsWell, ItemsAreWell, TreesAreWell, ArgumentIsWell, ArgumentsAreWell, StatementIsWell, StatementsAreWell, DeclarationsAreWell, ProgramIsWell}

@@ -8,4 +8,5 @@ pub mod Turns
 pub mod FlawsFit
 pub mod LimitLemmas
 pub mod Fitting
+pub mod LinearLemmas
 pub mod VerdictLemmas

@@ -1,7 +1,7 @@
 -- What is known where limits found no fault.
-use Rattle.std.proofs.Common.{◌≡◌, ℕ, zero, suc, ◌+◌, ◌<◌, ◌≤◌, min, Bool, true, false, cond, ◌&&◌, leb, ltb, List, [], ◌∷◌, ◌++◌, Option, None, Some, Result, Ok, Err, length, get_or, set, refl, sym, ap, subst, ◌∙◌, arith}
+use Rattle.std.proofs.Common.{◌≡◌, ℕ, zero, suc, ◌<◌, ◌≤◌, Bool, true, false, cond, ◌&&◌, leb, ltb, List, [], ◌∷◌, ◌++◌, None, Ok, Err, length, set, refl, ap, subst, ◌∙◌, arith}
 use Rattle.std.specs.List.{All, flat_map}
-use Rattle.std.specs.Prelude.{replicate, slice_index, slice_set}
+use Rattle.std.specs.Prelude.{replicate, slice_index}
 use Rattle.std.proofs.Math.ListN.{length-set}
 use Rattle.std.proofs.lemmas.Bool.Decides.{nat_tests}
 use Rattle.flp_syntax.specs.Tree.{Declaration, Program}
@@ -9,7 +9,7 @@ use Rattle.flp_syntax.specs.Scope.{arity_of, degree_of}
 use Rattle.flp_syntax.specs.declared.fault.LangFault.{LangFault}
 use Rattle.flp_syntax.specs.declared.fault.Counted.{Counted}
 use Rattle.flp_syntax.specs.declared.fault.Counted.TheVariants as counted
-use Rattle.flp_check.specs.Limits.{first, outside, named_count, gadget_faults, declared_faults, uncalled, closing_faults}
+use Rattle.flp_check.specs.Limits.{first, outside, named_count, gadget_faults, declared_faults, uncalled}
 use Rattle.flp_check.specs.Events.{Event, visit, bad_index, bad_arity, gadget_call, a_check, an_out}
 use Rattle.flp_check.specs.Counts.{Counts, meet, walk, Reaches}
 use Rattle.flp_check.specs.Verdict.{no_counts}

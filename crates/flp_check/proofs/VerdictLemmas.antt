@@ -1,5 +1,5 @@
 -- What a body that passed is known to be.
-use Rattle.std.proofs.Common.{◌≡◌, ℕ, ◌+◌, ◌<◌, ◌≤◌, Bool, true, false, cond, List, [], ◌∷◌, ◌++◌, Option, None, Some, Result, Ok, Err, length, refl, sym, ap, subst, ◌∙◌, arith}
+use Rattle.std.proofs.Common.{◌≡◌, Bool, true, false, cond, List, [], ◌∷◌, ◌++◌, Option, None, Some, Result, Ok, length, refl, subst}
 use Rattle.std.specs.Prelude.{option_map}
 use Rattle.std.specs.List.{flat_map}
 use Rattle.flp_syntax.specs.Tree.{Program}
@@ -9,12 +9,14 @@ use Rattle.flp_check.specs.declared.flaw.Flaw.{Flaw}
 use Rattle.flp_check.specs.Limits.{first, outside, gadget_faults, declared_faults, uncalled, closing_faults}
 use Rattle.flp_check.specs.Flaws.{earlier_of, first_flaw, declarations_flaws, stmts_flaws, text_flaws}
 use Rattle.flp_check.specs.Events.{body_events}
-use Rattle.flp_check.specs.Counts.{Counts, walk, go_on, Reaches}
+use Rattle.flp_check.specs.Counts.{Counts, walk, go_on}
 use Rattle.flp_check.specs.Verdict.{Totals, unless, flaw_fault, no_counts, totals_of, closed, verdict}
 use Rattle.flp_check.specs.Fits.{IsWithin, BodyFits}
+use Rattle.flp_check.specs.Linear.{BodyIsLinear}
 use Rattle.flp_check.proofs.Walking.{go_on_ok}
 use Rattle.flp_check.proofs.LimitLemmas.{none_first, outside_within, kinds_within, one_each, walk_counted, calls_within}
 use Rattle.flp_check.proofs.Fitting.{walk_sound, stmts_fit}
+use Rattle.flp_check.proofs.LinearLemmas.{stmts_linear}
 
 unless_ok : {A : Type 0} (o : Option LangFault) (r : Result A LangFault) (t : A) → unless o r ≡ Ok t → (o ≡ None) × (r ≡ Ok t)
 unless_ok None r t h = (refl, h)
@@ -71,6 +73,9 @@ pub body_fits : (body : Program) (totals : Totals) → verdict body ≡ Ok total
 body_fits body totals h =
     let p = passes body totals h in
     stmts_fit body [] body.stmts (walk_sound (body_events body) (no_counts body) p.counts p.walked) (nil_ends (declarations_flaws [] body.gadgets) (stmts_flaws body.gadgets [] body.stmts) p.flaws)
+
+pub body_linear : (body : Program) (totals : Totals) → verdict body ≡ Ok totals → BodyIsLinear body
+body_linear body totals h = stmts_linear body.gadgets [] body.stmts (nil_ends (declarations_flaws [] body.gadgets) (stmts_flaws body.gadgets [] body.stmts) (passes body totals h).flaws)
 
 pub body_within : (body : Program) (totals : Totals) → verdict body ≡ Ok totals → IsWithin body totals
 body_within body totals h =

@@ -4,4 +4,5 @@ pub mod Events
 pub mod Counts
 pub mod Verdict
 pub mod Fits
+pub mod Linear
 pub mod Held

@@ -3,6 +3,7 @@ ghost use Rattle.std.specs.Prelude.{◌≡◌, ◌≤◌, [], length};
 ghost use Rattle.flp_syntax.specs.View.{program_of};
 ghost use Rattle.flp_check.specs.Flaws.{text_flaws};
 ghost use Rattle.flp_check.specs.Fits.{IsWithin, BodyFits};
+ghost use Rattle.flp_check.specs.Linear.{BodyIsLinear};
 
 use crate::passed::Checked;
 
@@ -24,6 +25,13 @@ pub fn fits(checked: &Checked)
 /// No name and no sort is at fault.
 pub fn flawless(checked: &Checked)
     ensures { text_flaws (program_of checked.now.body) ≡ [] }
+{
+    let _body = &checked.body;
+}
+
+/// At most one factor of a product is shared, no base of a power is, and outputs are linear in the encoding.
+pub fn linear(checked: &Checked)
+    ensures { BodyIsLinear (program_of checked.now.body) }
 {
     let _body = &checked.body;
 }

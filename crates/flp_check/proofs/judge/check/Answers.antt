@@ -2,7 +2,6 @@ use Rattle.std.proofs.Common.{sym, ◌∙◌, arith}
 use Rattle.flp_check.proofs.FlawsFit.{flaw_fits}
 use Rattle.flp_check.proofs.LimitLemmas.{few_gadgets, one_each}
 use Rattle.flp_syntax.specs.View.{program_of}
-use Rattle.flp_check.specs.Events.{body_events}
 use Rattle.flp_check.proofs.judge.check.Goals as goal
 
 pub fault_of-requires : goal.fault_of-requires

@@ -1,4 +1,3 @@
-use Rattle.std.proofs.lemmas.List.{drop_all}
 use Rattle.flp_syntax.specs.View.{tree_of_Number, tree_of_Var, tree_of_Joint, tree_of_Meas, tree_of_MeasOrZero, tree_of_Sum, tree_of_Call, tree_of_Add, tree_of_Mul, tree_of_Pow, arg_of_One, arg_of_Each}
 use Rattle.flp_check.proofs.Rests.{rest_items, rest_trees, rest_args}
 use Rattle.flp_check.proofs.Finding.{finds_none, finds_more}
