@@ -1,7 +1,8 @@
 //! What is known of a body that passed, for the layers above.
-ghost use Rattle.std.specs.Prelude.{◌≡◌, ◌≤◌, [], length};
+ghost use Rattle.std.specs.Prelude.{◌≡◌, ◌≤◌, List, [], Some, length};
 ghost use Rattle.flp_syntax.specs.View.{program_of};
-ghost use Rattle.flp_check.specs.Flaws.{text_flaws};
+ghost use Rattle.flp_check.specs.declared.flaw.Flaw.{Flaw};
+ghost use Rattle.flp_check.specs.Flaws.{first_flaw, text_flaws, IsFirst};
 ghost use Rattle.flp_check.specs.Fits.{IsWithin, BodyFits};
 ghost use Rattle.flp_check.specs.Linear.{BodyIsLinear};
 
@@ -35,3 +36,8 @@ pub fn linear(checked: &Checked)
 {
     let _body = &checked.body;
 }
+
+/// The first flaw of a list is one of it, and none comes before it: by token, and on one token by rule.
+pub fn first_flaw_is_first()
+    ensures { (flaws : List Flaw) (flaw : Flaw) → first_flaw flaws ≡ Some flaw → IsFirst flaws flaw }
+{}

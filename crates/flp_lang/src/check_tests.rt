@@ -50,6 +50,7 @@ fn counts_what_is_met(rt: HostRuntime) -> Result<(), Fail> {
         laws::flawless(&checked);
         laws::linear(&checked);
     }
+    laws::first_flaw_is_first();
     Ok(())
 }
 
