@@ -51,6 +51,7 @@ fn counts_what_is_met(rt: HostRuntime) -> Result<(), Fail> {
         laws::linear(&checked);
     }
     laws::first_flaw_is_first();
+    laws::few_visits();
     Ok(())
 }
 
