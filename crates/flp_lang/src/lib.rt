@@ -22,6 +22,8 @@
 //! read as these tokens.
 #![tactic(auto)]
 
+#[cfg(test)]
+mod check_tests;
 mod decl;
 mod expr;
 mod index;
@@ -36,6 +38,7 @@ mod standard;
 mod stmt;
 mod text;
 
+pub use flp_check::{Checked, check};
 pub use flp_syntax::{
     Arg, Body, Circuit, Coef, Counted, Decl, Expr, Idx, IdxItem, Item, KindText, LangFault, Mark,
     Params, Stmt, Token,
