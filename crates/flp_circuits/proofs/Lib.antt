@@ -1,0 +1,2 @@
+-- bit lengths, and lists of bits
+pub mod BitLemmas

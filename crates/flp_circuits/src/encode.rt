@@ -1,0 +1,125 @@
+//! The encodings of measurements.
+ghost use Rattle.std.specs.Prelude.{◌≡◌, ◌+◌, ◌*◌, ◌^◌, ◌<◌, ◌≤◌, ◌++◌, ◌==◌, length, sum, count_by, OnOk, OnErr, All};
+ghost use Rattle.std.specs.List.{flat_map};
+ghost use Rattle.std.specs.Result.{result_err};
+ghost use Rattle.flp_circuits.specs.Bits.{bit_length, headroom, bits_of};
+ghost use Rattle.flp_circuits.specs.Sizes.{input_len_of, meas_len_of, Fits};
+ghost use Rattle.flp_circuits.specs.Encoding.{encoding_of, one_at, range_of, range_fault, weight_of, weight_fault, meas_fault};
+
+use crate::bits::{bit_length, headroom, write_bits};
+use crate::fault::MeasFault;
+use crate::params::input_len;
+use flp_field::Fe;
+use flp_syntax::Params;
+
+/// Each number of a measurement is below this.
+fn range(params: &Params) -> u64
+    requires { Fits params.now }
+    ensures { result ≡ range_of params.now }
+{
+    match *params {
+        Params::Count | Params::Multihot { .. } => 2,
+        Params::Sum { max } => max + 1,
+        Params::SumVec { bits, .. } => 1 << bits,
+        Params::Histogram { length, .. } => length,
+    }
+}
+
+/// Refuses the first number out of range.
+fn in_range(range: u64, input: &[u64]) -> Result<(), MeasFault>
+    requires { length input.now ≤ 65536 }
+    ensures { result_err result ≡ range_fault range 0 input.now }
+{
+    for (place, n) in input.iter().enumerate() {
+        if *n >= range {
+            return Err(MeasFault::Range(place as u32, *n));
+        }
+    }
+    Ok(())
+}
+
+/// How many numbers are 1.
+fn weight(input: &[u64]) -> u64
+    ensures { result ≡ weight_of input.now }
+{
+    input.iter().filter(|n| **n == 1).count() as u64
+}
+
+/// Refuses more ones than the weight.
+fn within_weight(params: &Params, input: &[u64]) -> Result<(), MeasFault>
+    ensures { result_err result ≡ weight_fault params.now input.now }
+{
+    if let Params::Multihot { weight: limit, .. } = *params {
+        let ones = weight(input);
+        if ones > limit {
+            return Err(MeasFault::Weight(ones));
+        }
+    }
+    Ok(())
+}
+
+/// Refuses a measurement by its first fault.
+fn judge(params: &Params, input: &[u64]) -> Result<(), MeasFault>
+    requires { Fits params.now }
+    ensures { result_err result ≡ meas_fault params.now input.now }
+{
+    let count = input.len() as u64;
+    if count != input_len(params) {
+        return Err(MeasFault::Count(count));
+    }
+    in_range(range(params), input)?;
+    within_weight(params, input)
+}
+
+/// Writes the number as a word.
+fn write_number(n: u64, out: &mut [Fe])
+    requires one { length out.old ≡ 1 }
+    requires bit { n < 2 }
+    ensures { out.new ≡ n ∷ [] }
+{
+    out[0] = if n == 1 { Fe::ONE } else { Fe::ZERO };
+}
+
+/// Writes the bits of the number, and the bits of the number with the headroom of the greatest one.
+fn write_sum(max: u64, n: u64, out: &mut [Fe])
+    requires limit { max < 2 ^ 63 }
+    requires range { n ≤ max }
+    requires places { length out.old ≡ 2 * bit_length max }
+    ensures { out.new ≡ bits_of (bit_length max) n ++ bits_of (bit_length max) (n + headroom max) }
+{
+    let (low, high) = out.split_at_mut(bit_length(max) as usize);
+    write_bits(n, low);
+    write_bits(n + headroom(max), high);
+}
+
+/// Writes so many bits of each number, one number after another.
+fn write_numbers(bits: usize, input: &[u64], out: &mut [Fe])
+    requires places { length out.old ≡ length input.now * bits }
+    ensures { out.new ≡ flat_map (bits_of bits) input.now }
+{
+    let mut at = 0;
+    for n in input {
+        write_bits(*n, &mut out[at..at + bits]);
+        at += bits;
+    }
+}
+
+/// Writes 1 at the place, and 0 elsewhere.
+fn write_place(place: u64, out: &mut [Fe])
+    requires { place < length out.old }
+    ensures { out.new ≡ one_at (length out.old) place }
+{
+    out.fill(Fe::ZERO);
+    out[place as usize] = Fe::ONE;
+}
+
+/// Writes numbers, each 0 or 1, as words.
+fn write_words(input: &[u64], out: &mut [Fe])
+    requires places { length out.old ≡ length input.now }
+    requires bits { All (λ n. n < 2) input.now }
+    ensures { out.new ≡ input.now }
+{
+    for (n, word) in input.iter().zip(out.iter_mut()) {
+        write_number(*n, word);
+    }
+}
