@@ -1,6 +1,6 @@
 -- Bit lengths, and lists of bits.
 use Rattle.std.proofs.Common.{ℕ, zero, suc, ◌+◌, ◌-◌, ◌*◌, ◌/◌, ◌%◌, ◌^◌, ◌<◌, ◌≤◌, ◌≡◌, ltb, lit<, List, [], ◌∷◌, ◌++◌, length, take, sym, ap, ◌∙◌, refl, ⊎_elim, add-one, append_assoc, append-nil, arith}
-use Rattle.std.proofs.Math.Nat.{pow-succ', mul-le-mul_right}
+use Rattle.std.proofs.Math.Nat.{pow-succ', mul-le-mul_right, pow-le-pow_right}
 use Rattle.std.proofs.Math.Pow.{pow-lt}
 use Rattle.std.proofs.Math.ListN.{set, length-set}
 use Rattle.std.proofs.lemmas.List.{take_all, take_more_set}
@@ -90,3 +90,11 @@ bits_of-all out i rest all h e =
 -- the shift that makes a power of two
 pub shifted : (n : ℕ) → n < 2 ^ 63 → (1 * 2 ^ bit_length n) % 18446744073709551616 ≡ 2 ^ bit_length n
 shifted n h = let below : bit_length n < 64 = omega (arith, bit_length-below n 63 h) in one_shl (bit_length n) 64 below
+
+-- the greatest number of a bit length is below 2 ^ 63 where the number is
+pub headroom-below : (n : ℕ) → n < 2 ^ 63 → n + headroom n < 2 ^ 63
+headroom-below n h =
+    let small : bit_length n ≤ 63 = bit_length-below n 63 h in
+    let top : 2 ^ bit_length n ≤ 2 ^ 63 = pow-le-pow_right {n = 2} (lit< tt) small in
+    let some : n < 2 ^ bit_length n = (bit_length-is n).0 in
+    omega (arith, headroom-is n)

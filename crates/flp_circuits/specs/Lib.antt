@@ -6,4 +6,4 @@ pub mod Sizes
 -- the encoding of a measurement, its vector, and which measurements are refused
 pub mod Encoding
 -- the circuits as syntax trees
--- pub mod Standard
+pub mod Standard

@@ -9,8 +9,10 @@
 #![tactic(auto)]
 
 mod bits;
+mod encoding;
 mod fault;
 mod params;
 
+pub use encoding::encode;
 pub use fault::{MeasFault, Param, ParamFault};
 pub use params::{fits, input_len, meas_len};

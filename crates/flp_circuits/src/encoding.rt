@@ -1,5 +1,5 @@
 //! The encodings of measurements.
-ghost use Rattle.std.specs.Prelude.{◌≡◌, ◌+◌, ◌*◌, ◌^◌, ◌<◌, ◌≤◌, ◌++◌, ◌==◌, length, sum, count_by, OnOk, OnErr, All};
+ghost use Rattle.std.specs.Prelude.{◌≡◌, ◌+◌, ◌*◌, ◌^◌, ◌<◌, ◌≤◌, ◌++◌, ◌∷◌, ◌==◌, List, [], None, length, sum, count_by, OnOk, OnErr, All};
 ghost use Rattle.std.specs.List.{flat_map};
 ghost use Rattle.std.specs.Result.{result_err};
 ghost use Rattle.flp_circuits.specs.Bits.{bit_length, headroom, bits_of};
@@ -71,13 +71,21 @@ fn judge(params: &Params, input: &[u64]) -> Result<(), MeasFault>
     within_weight(params, input)
 }
 
-/// Writes the number as a word.
+/// The word that is 0 or 1 as the number is.
+fn bit_word(n: u64) -> Fe
+    requires { n < 2 }
+    ensures { result ≡ n }
+{
+    if n == 1 { Fe::ONE } else { Fe::ZERO }
+}
+
+/// Writes the number, which is 0 or 1, as a word.
 fn write_number(n: u64, out: &mut [Fe])
     requires one { length out.old ≡ 1 }
     requires bit { n < 2 }
     ensures { out.new ≡ n ∷ [] }
 {
-    out[0] = if n == 1 { Fe::ONE } else { Fe::ZERO };
+    out[0] = bit_word(n);
 }
 
 /// Writes the bits of the number, and the bits of the number with the headroom of the greatest one.
@@ -119,7 +127,52 @@ fn write_words(input: &[u64], out: &mut [Fe])
     requires bits { All (λ n. n < 2) input.now }
     ensures { out.new ≡ input.now }
 {
-    for (n, word) in input.iter().zip(out.iter_mut()) {
-        write_number(*n, word);
+    for (place, n) in input.iter().enumerate() {
+        out[place] = bit_word(*n);
     }
+}
+
+/// Writes numbers, each 0 or 1, and then the bits of their sum with the weight's headroom.
+fn write_multihot(weight: u64, input: &[u64], out: &mut [Fe])
+    requires limit { weight < 2 ^ 63 }
+    requires bits { All (λ n. n < 2) input.now }
+    requires within { sum input.now ≤ weight }
+    requires places { length out.old ≡ length input.now + bit_length weight }
+    ensures { out.new ≡ input.now ++ bits_of (bit_length weight) (sum input.now + headroom weight) }
+{
+    let total: u64 = input.iter().sum();
+    let (words, bits) = out.split_at_mut(input.len());
+    write_words(input, words);
+    write_bits(total + headroom(weight), bits);
+}
+
+/// Writes the encoding of a measurement that is not refused.
+fn write(params: &Params, input: &[u64], out: &mut [Fe])
+    requires fits { Fits params.now }
+    requires judged { meas_fault params.now input.now ≡ None }
+    requires places { length out.old ≡ meas_len_of params.now }
+    ensures { out.new ≡ encoding_of params.now input.now }
+{
+    match *params {
+        Params::Count => write_number(input[0], out),
+        Params::Sum { max } => write_sum(max, input[0], out),
+        Params::SumVec { bits, .. } => write_numbers(bits as usize, input, out),
+        Params::Histogram { .. } => write_place(input[0], out),
+        Params::Multihot { weight, .. } => write_multihot(weight, input, out),
+    }
+}
+
+/// Writes the encoding of a measurement, or refuses it by its first fault and leaves `out` as it is.
+///
+/// `out` has [`crate::meas_len`] places. No memory is taken.
+pub fn encode(params: &Params, input: &[u64], out: &mut [Fe]) -> Result<(), MeasFault>
+    requires fits { Fits params.now }
+    requires places { length out.old ≡ meas_len_of params.now }
+    ensures cause { result_err result ≡ meas_fault params.now input.now }
+    ensures written { OnOk result (out.new ≡ encoding_of params.now input.now) }
+    ensures unchanged { OnErr result (out.new ≡ out.old) }
+{
+    judge(params, input)?;
+    write(params, input, out);
+    Ok(())
 }
