@@ -1,2 +1,12 @@
 -- bit lengths, and lists of bits
 pub mod BitLemmas
+-- what a measurement that is not refused keeps to
+pub mod EncodingLemmas
+-- what runs give
+pub mod Gives
+-- what the parts of the circuits mean
+pub mod Directly
+-- what the circuits mean
+pub mod Programs
+-- the circuits are well formed
+pub mod WellLemmas

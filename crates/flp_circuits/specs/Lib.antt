@@ -7,3 +7,7 @@ pub mod Sizes
 pub mod Encoding
 -- the circuits as syntax trees
 pub mod Standard
+-- their checks as plain sums
+pub mod Formulas
+-- what they promise
+pub mod Laws

@@ -60,20 +60,27 @@ words_sum at name n = sum_below at name n (meas (at + 7) (index_var (at + 9) nam
 abbrev pub word_of_chunk : ℕ → ℕ → Tree
 word_of_chunk at chunk = meas_or_zero at (in_row (at + 3) name_c chunk name_j)
 
+-- `joint[c]^(j + 1)`
+abbrev pub joint_power : ℕ → Tree
+joint_power at = pow at (joint at (index_var (at + 2) name_c)) (index_sum_of (at + 6) (index_var (at + 6) name_j) (idx (at + 8) 1))
+
 -- `joint[c]^(j + 1) * meas?[c * chunk + j], meas?[c * chunk + j] - 1`
 abbrev pub chunk_args : ℕ → ℕ → List Argument
 chunk_args at chunk =
-    one (mul at (trees (pow at (joint at (index_var (at + 2) name_c)) (index_sum_of (at + 6) (index_var (at + 6) name_j) (idx (at + 8) 1)) ∷ word_of_chunk (at + 11) chunk ∷ [])))
+    one (mul at (trees (joint_power at ∷ word_of_chunk (at + 11) chunk ∷ [])))
     ∷ one (add (at + 21) (items ((false, word_of_chunk (at + 21) chunk) ∷ (true, num (at + 31) 1) ∷ [])))
     ∷ []
 
+-- `g( each j in 0..chunk ( .. ) )`
+abbrev pub chunk_call : ℕ → ℕ → Tree
+chunk_call at chunk =
+    call at name_g (arguments (each_arg (at + 2) name_j (idx (at + 5) 0) (idx (at + 7) chunk) (arguments (chunk_args (at + 9) chunk)) ∷ []))
+
 -- the range check `sum c in 0..calls ( g( each j in 0..chunk ( .. ) ) )`: 51 tokens
 abbrev pub range_check : ℕ → ℕ → ℕ → Tree
-range_check at calls chunk =
-    sum_below at name_c calls
-        (call (at + 7) name_g (arguments (each_arg (at + 9) name_j (idx (at + 12) 0) (idx (at + 14) chunk) (arguments (chunk_args (at + 16) chunk)) ∷ [])))
+range_check at calls chunk = sum_below at name_c calls (chunk_call (at + 7) chunk)
 
--- `each name in 0..n ( out inner; )`; the inner part begins nine tokens on
+-- `each name in 0..n ( out inner; )`; the inner part begins eight tokens on
 abbrev pub each_out : ℕ → List ℕ → ℕ → Tree → Statement
 each_out at name n inner = each at name (idx (at + 3) 0) (idx (at + 5) n) (statements (out (at + 7) inner ∷ []))
 
@@ -127,26 +134,32 @@ chunked_program words chunk more = record {
 }
 
 -- each i in 0..length ( out sum j in 0..bits ( 2^j * meas[i * bits + j] ); )
+abbrev pub each_number_out : ℕ → ℕ → Statement
+each_number_out length bits = each_out 66 name_i length (bits_sum 74 name_j bits (in_row 87 name_i bits name_j))
+
 abbrev pub sum_vec_statements : ℕ → ℕ → List Statement
-sum_vec_statements length bits = each_out 66 name_i length (bits_sum 74 name_j bits (in_row 87 name_i bits name_j)) ∷ []
+sum_vec_statements length bits = each_number_out length bits ∷ []
 
 -- check sum i in 0..length ( meas[i] ) - 1;
+abbrev pub one_check : ℕ → Statement
+one_check length = check 66 (add 67 (items ((false, words_sum 67 name_i length) ∷ (true, num 80 1) ∷ [])))
+
 -- each i in 0..length ( out meas[i]; )
 abbrev pub histogram_statements : ℕ → List Statement
-histogram_statements length =
-    check 66 (add 67 (items ((false, words_sum 67 name_i length) ∷ (true, num 80 1) ∷ [])))
-    ∷ each_word_out 82 length ∷ []
+histogram_statements length = one_check length ∷ each_word_out 82 length ∷ []
 
 -- with b the bit length of the weight and f its headroom:
 -- check f + sum i in 0..length ( meas[i] ) - sum i in 0..b ( 2^i * meas[length + i] );
--- each i in 0..length ( out meas[i]; )
-abbrev pub multihot_statements : ℕ → ℕ → ℕ → List Statement
-multihot_statements length b f =
+abbrev pub weight_check : ℕ → ℕ → ℕ → Statement
+weight_check length b f =
     check 66 (add 67 (items (
         (false, num 67 f)
         ∷ (false, words_sum 69 name_i length)
         ∷ (true, bits_sum 82 name_i b (shifted 95 length name_i)) ∷ [])))
-    ∷ each_word_out 101 length ∷ []
+
+-- each i in 0..length ( out meas[i]; )
+abbrev pub multihot_statements : ℕ → ℕ → ℕ → List Statement
+multihot_statements length b f = weight_check length b f ∷ each_word_out 101 length ∷ []
 
 -- the circuit of the parameters
 abbrev pub standard_program : Params → Program

@@ -21,7 +21,8 @@ pub fn bit_length(n: u64) -> u32
 /// What has to be added to `n` to reach the greatest number of its bit length.
 pub fn headroom(n: u64) -> u64
     requires { n < 2 ^ 63 }
-    ensures { result ≡ headroom n }
+    ensures same { result ≡ headroom n }
+    ensures limit { result < 2 ^ 63 }
 {
     (1 << bit_length(n)) - 1 - n
 }

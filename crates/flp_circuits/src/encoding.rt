@@ -132,6 +132,14 @@ fn write_words(input: &[u64], out: &mut [Fe])
     }
 }
 
+/// The sum of the numbers.
+fn total(input: &[u64]) -> u64
+    requires { sum input.now < 2 ^ 63 }
+    ensures { result ≡ sum input.now }
+{
+    input.iter().sum()
+}
+
 /// Writes numbers, each 0 or 1, and then the bits of their sum with the weight's headroom.
 fn write_multihot(weight: u64, input: &[u64], out: &mut [Fe])
     requires limit { weight < 2 ^ 63 }
@@ -140,10 +148,9 @@ fn write_multihot(weight: u64, input: &[u64], out: &mut [Fe])
     requires places { length out.old ≡ length input.now + bit_length weight }
     ensures { out.new ≡ input.now ++ bits_of (bit_length weight) (sum input.now + headroom weight) }
 {
-    let total: u64 = input.iter().sum();
     let (words, bits) = out.split_at_mut(input.len());
     write_words(input, words);
-    write_bits(total + headroom(weight), bits);
+    write_bits(total(input) + headroom(weight), bits);
 }
 
 /// Writes the encoding of a measurement that is not refused.

@@ -9,10 +9,13 @@
 #![tactic(auto)]
 
 mod bits;
+mod body;
 mod encoding;
 mod fault;
 mod params;
+mod tree;
 
+pub use body::body_of;
 pub use encoding::encode;
 pub use fault::{MeasFault, Param, ParamFault};
 pub use params::{fits, input_len, meas_len};

@@ -1,7 +1,7 @@
 //! The parameters of the standard circuits: what is refused, and the lengths that they give.
-ghost use Rattle.std.specs.Prelude.{◌≡◌, ◌<◌, ◌≤◌, ◌^◌, ◌↔◌, IsTrue, MatchResult};
+ghost use Rattle.std.specs.Prelude.{◌≡◌, ◌<◌, ◌≤◌, ◌+◌, ◌*◌, ◌^◌, ◌↔◌, IsTrue, MatchResult};
 ghost use Rattle.std.specs.Result.{result_err};
-ghost use Rattle.flp_circuits.specs.Sizes.{input_len_of, meas_len_of, by_chunks, first_too_large, first_refusal, Fits};
+ghost use Rattle.flp_circuits.specs.Sizes.{input_len_of, meas_len_of, quotient_up, by_chunks, first_too_large, first_refusal, Fits};
 ghost use Rattle.flp_syntax.specs.declared.syntax.Params.TheVariants.{Sum, SumVec, Histogram, Multihot};
 ghost use Rattle.flp_circuits.specs.declared.fault.ParamFault.TheVariants.{Zero, TooLarge};
 
@@ -36,15 +36,23 @@ fn at_most(which: Param, value: u64, limit: u64) -> Result<(), ParamFault>
     Ok(())
 }
 
+/// How many calls take so many words by chunks.
+pub fn calls_of(words: u64, chunk: u64) -> u64
+    requires chunk { 0 < chunk }
+    requires room { words + chunk < 2 ^ 63 }
+    ensures { result ≡ quotient_up words chunk }
+{
+    (words + (chunk - 1)) / chunk
+}
+
 /// Refuses too many words of an encoding, and too many calls of a gadget that takes them by chunks.
 fn counts_fit(meas: u64, chunk: u64) -> Result<(), ParamFault>
-    requires room { meas < 2 ^ 63 }
     requires chunk { 0 < chunk }
-    requires chunks { chunk ≤ 512 }
+    requires room { meas + chunk < 2 ^ 63 }
     ensures { result_err result ≡ first_too_large (by_chunks meas chunk) }
 {
     at_most(Param::Meas, meas, MEAS_LIMIT)?;
-    at_most(Param::Calls, (meas + (chunk - 1)) / chunk, CALLS_LIMIT)
+    at_most(Param::Calls, calls_of(meas, chunk), CALLS_LIMIT)
 }
 
 fn sum_fits(max: u64) -> Result<(), ParamFault>
