@@ -1,5 +1,5 @@
 -- What the parts of the standard circuits mean in the direct reading.
-use Rattle.std.proofs.Common.{ℕ, zero, suc, ◌+◌, ◌-◌, ◌*◌, ◌%◌, ◌^◌, ◌<◌, ◌≤◌, ◌≡◌, Bool, true, false, cond, List, [], ◌∷◌, ◌++◌, map, take, drop, slice_index, sum, sym, ap, ap₂, ◌∙◌, refl, arith}
+use Rattle.std.proofs.Common.{ℕ, zero, suc, ◌+◌, ◌-◌, ◌*◌, ◌%◌, ◌^◌, ◌<◌, ◌≤◌, ◌≡◌, Bool, true, false, cond, List, [], ◌∷◌, ◌++◌, map, take, drop, slice_index, sum, sym, ap, ap₂, ◌∙◌, refl, mul_assoc, arith}
 use Rattle.std.specs.List.{sum_by, flat_map}
 use Rattle.std.proofs.lemmas.List.{append-nil}
 use Rattle.std.proofs.lemmas.List.Sums.{sum_by-cons}
@@ -130,9 +130,13 @@ module _ (kind : Kind) (body : Program) (x joint : List ℕ) where
       let each_one = each_arg (at + 2) name_j (idx (at + 5) 0) (idx (at + 7) chunk) (arguments (chunk_args (at + 9) chunk)) in
       gives_cons (λ (a b : List ℕ). a ++ b) [] (argument_of (gadget_g kind) (direct body x joint) scope each_one) [] (flat_map (pair (weighted chunk c) (less_one chunk c)) (numbers_from 0 chunk)) []
       (gives_list (λ j. listed (arguments_of (gadget_g kind) (direct body x joint) (inside scope name_j j) (arguments (chunk_args (at + 9) chunk)))) (pair (weighted chunk c) (less_one chunk c)) chunk (λ j.
-          record { at = λ made. ap₂ (λ (a b : ℕ). a % modulus ∷ b % modulus ∷ [])
-              (let e : slice_index joint c ^ (j + 1) * (slice_index x (c * chunk + j) * 1) ≡ weighted chunk c j = omega arith in e)
-              (let e : slice_index x (c * chunk + j) + ((modulus - 1) * (1 * 1) + 0) ≡ less_one chunk c j = omega arith in e) }))
+          let power : 0 + j + 1 ≡ j + 1 = omega arith in
+          let place : 0 + 1 * c * chunk + j ≡ c * chunk + j = omega arith in
+          let first : slice_index joint c ^ (0 + j + 1) * (slice_index x (0 + 1 * c * chunk + j) * 1) ≡ weighted chunk c j =
+              ap₂ (λ (k i : ℕ). slice_index joint c ^ k * (slice_index x i * 1)) power place ∙ (let e : slice_index joint c ^ (j + 1) * (slice_index x (c * chunk + j) * 1) ≡ weighted chunk c j = omega arith in e) in
+          let second : slice_index x (0 + 1 * c * chunk + j) + ((modulus - 1) * (1 * 1) + 0) ≡ less_one chunk c j =
+              ap (λ (i : ℕ). slice_index x i + ((modulus - 1) * (1 * 1) + 0)) place ∙ (let e : slice_index x (c * chunk + j) + ((modulus - 1) * (1 * 1) + 0) ≡ less_one chunk c j = omega arith in e) in
+          record { at = λ made. ap₂ (λ (a b : ℕ). a % modulus ∷ b % modulus ∷ []) first second }))
       (gives_nil (λ (a b : List ℕ). a ++ b) [])
 
   -- the range check, before it is taken modulo p

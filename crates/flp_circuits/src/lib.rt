@@ -12,6 +12,7 @@ mod bits;
 mod body;
 mod encoding;
 mod fault;
+pub mod laws;
 mod params;
 mod tree;
 

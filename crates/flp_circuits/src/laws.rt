@@ -1,0 +1,18 @@
+//! The laws of the standard circuits, each the contract of a function that does nothing. A caller's proof takes the law
+//! from here; the statements are in `specs/Laws.antt`.
+ghost use Rattle.flp_circuits.specs.Laws.{BitLengthsAreLeast, CircuitsAreWell, ChecksAreFormulas, EncodingsAreValid, OutsAreVectors};
+
+/// The bit length of a number is the least exponent whose power of two is above it.
+pub fn bit_lengths()
+    ensures { BitLengthsAreLeast }
+{}
+
+/// Each standard circuit is well formed.
+pub fn well_formed()
+    ensures { CircuitsAreWell }
+{}
+
+/// The checks of a standard circuit are the formulas, for any words of an encoding and any joint words.
+pub fn checks_are_formulas()
+    ensures { ChecksAreFormulas }
+{}
