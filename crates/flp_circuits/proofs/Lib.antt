@@ -10,3 +10,7 @@ pub mod Directly
 pub mod Programs
 -- the circuits are well formed
 pub mod WellLemmas
+-- words of lists, and sums over them
+pub mod WordLemmas
+-- why encodings are valid
+pub mod Encodings

@@ -96,10 +96,10 @@ gives_chunked words chunk more x joint rest h =
     (gives_as _ _ _ (gives_check kind body x joint [] 13 range _ (gives_range kind body x joint 14 calls chunk)) (ap (λ (v : ℕ). checks_only (v ∷ [])) (range-formula kind body x joint calls chunk)))
     h
 
-pub sum_vec_outs : ℕ → ℕ → List ℕ → List ℕ
+unfoldable pub sum_vec_outs : ℕ → ℕ → List ℕ → List ℕ
 sum_vec_outs length bits x = map (λ i. sum_below bits (λ j. 2 ^ j * word x (i * bits + j)) % modulus) (numbers_from 0 length)
 
-pub word_outs : ℕ → List ℕ → List ℕ
+unfoldable pub word_outs : ℕ → List ℕ → List ℕ
 word_outs length x = map (λ i. word x i % modulus) (numbers_from 0 length)
 
 pub gives_sum_vec : (words length bits chunk : ℕ) (x joint : List ℕ) → Gives (performed (statements_of (gadget_g (psum_kind chunk mul_kind)) (direct (chunked_program words chunk (sum_vec_statements length bits)) x joint) [] (statements (sum_vec_statements length bits)))) (outs_only (sum_vec_outs length bits x))
@@ -157,7 +157,7 @@ checks_are (Histogram length chunk) x joint =
 checks_are (Multihot length weight chunk) x joint =
     ap (λ (r : Results). r.checks) ((gives_chunked (length + bit_length weight) chunk (multihot_statements length (bit_length weight) (headroom weight)) x joint _ (gives_multihot length (bit_length weight) (headroom weight) chunk x joint)).at 0)
 
-pub outs_formula : Params → List ℕ → List ℕ
+unfoldable pub outs_formula : Params → List ℕ → List ℕ
 outs_formula Count x = word x 0 % modulus ∷ []
 outs_formula (Sum max) x = number_at x 0 (bit_length max) % modulus ∷ []
 outs_formula (SumVec length bits chunk) x = sum_vec_outs length bits x

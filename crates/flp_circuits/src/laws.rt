@@ -16,3 +16,10 @@ pub fn well_formed()
 pub fn checks_are_formulas()
     ensures { ChecksAreFormulas }
 {}
+
+/// The encoding of a measurement that is not refused is valid under all joint words, and its outs are the measurement's
+/// vector.
+pub fn encodings()
+    ensures valid { EncodingsAreValid }
+    ensures vectors { OutsAreVectors }
+{}
