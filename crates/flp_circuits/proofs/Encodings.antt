@@ -15,7 +15,7 @@ use Rattle.flp_syntax.specs.declared.syntax.Params.TheVariants.{Count, Sum, SumV
 use Rattle.flp_syntax.specs.Scope.{numbers_from}
 use Rattle.flp_meaning.specs.Circuit.{outs_of, IsValid, direct, checks_of}
 use Rattle.flp_circuits.specs.Bits.{bit_length, headroom, bits_of}
-use Rattle.flp_circuits.specs.Sizes.{Fits, quotient_up, parameters, counts, first_zero, first_too_large}
+use Rattle.flp_circuits.specs.Sizes.{Fits, meas_len_of, quotient_up, parameters, counts, first_zero, first_too_large}
 use Rattle.flp_circuits.specs.Encoding.{the_number, one_at, vector_of, encoding_of, meas_fault, range_of}
 use Rattle.flp_circuits.specs.Standard.{standard_program}
 use Rattle.flp_circuits.specs.Formulas.{word, minus, sum_below, bit_check, number_at, range_sum, formula_of}
@@ -129,8 +129,8 @@ formulas_zero (Multihot count weight chunk) input joint h =
     let high : number_at x count b ≡ raised_sum = number_at-behind input count b raised_sum long (raised weight (sum input) light) in
     two_zero _ _ (range_zero x joint (quotient_up (count + b) chunk) chunk bits) (balanced (headroom weight) (sum_below count (word x)) (number_at x count b) (high ∙ ap (λ (k : ℕ). k + headroom weight) (sym low)))
 
-pub encodings_are_valid : (params : Params) (input joint : List ℕ) → Fits params → meas_fault params input ≡ None → IsValid (standard_program params) (encoding_of params input) joint
-encodings_are_valid params input joint fits judged =
+pub encodings_are_valid : (params : Params) (input joint : List ℕ) → meas_fault params input ≡ None → IsValid (standard_program params) (encoding_of params input) joint
+encodings_are_valid params input joint judged =
     subst (All (λ value. value ≡ 0)) (sym (checks_are params (encoding_of params input) joint)) (formulas_zero params input joint (taken params input judged))
 
 -- ---- outs
@@ -194,3 +194,23 @@ formulas_outs (Multihot count weight chunk) input fits h =
 
 pub outs_are_vectors : (params : Params) (input : List ℕ) → Fits params → meas_fault params input ≡ None → outs_of (standard_program params) (encoding_of params input) ≡ vector_of params input
 outs_are_vectors params input fits judged = outs_are params (encoding_of params input) ∙ formulas_outs params input fits (taken params input judged)
+
+-- ---- lengths
+
+length-flat_map : (bits : ℕ) (xs : List ℕ) → length (flat_map (bits_of bits) xs) ≡ length xs * bits
+length-flat_map bits [] = (let none : 0 ≡ 0 * bits = omega arith in none)
+length-flat_map bits (x ∷ xs) =
+    length-append (bits_of bits x) (flat_map (bits_of bits) xs) ∙ ap₂ (λ (a b : ℕ). a + b) (length-bits_of bits x) (length-flat_map bits xs) ∙ (let whole : bits + length xs * bits ≡ suc (length xs) * bits = omega arith in whole)
+
+lengths_taken : (params : Params) (input : List ℕ) → IsTaken params input → length (encoding_of params input) ≡ meas_len_of params
+lengths_taken Count input h = refl
+lengths_taken (Sum max) input h =
+    let b = bit_length max in
+    length-append (bits_of b (the_number input)) (bits_of b (the_number input + headroom max)) ∙ ap₂ (λ (m n : ℕ). m + n) (length-bits_of b (the_number input)) (length-bits_of b (the_number input + headroom max)) ∙ (let whole : b + b ≡ 2 * b = omega arith in whole)
+lengths_taken (SumVec count bits chunk) input h = length-flat_map bits input ∙ ap (λ (k : ℕ). k * bits) h.count
+lengths_taken (Histogram buckets chunk) input h = one_at-length buckets (the_number input) (number_in_range (Histogram buckets chunk) input h (omega (arith, h.count)))
+lengths_taken (Multihot count weight chunk) input h =
+    length-append input (bits_of (bit_length weight) (sum input + headroom weight)) ∙ ap₂ (λ (m n : ℕ). m + n) h.count (length-bits_of (bit_length weight) (sum input + headroom weight))
+
+pub encodings_have_length : (params : Params) (input : List ℕ) → meas_fault params input ≡ None → length (encoding_of params input) ≡ meas_len_of params
+encodings_have_length params input judged = lengths_taken params input (taken params input judged)

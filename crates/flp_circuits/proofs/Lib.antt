@@ -14,3 +14,11 @@ pub mod WellLemmas
 pub mod WordLemmas
 -- why encodings are valid
 pub mod Encodings
+-- walks that meet no fault
+pub mod Meets
+-- what unrolling the parts of the circuits meets
+pub mod Unrolled
+-- what parameters keep to
+pub mod Fitting
+-- `check` finds no fault
+pub mod Passing
