@@ -13,3 +13,5 @@ pub mod Order
 pub mod ProductLemmas
 -- roots of unity
 pub mod RootsOfUnity
+-- sums of lists of words, and the parts of a list
+pub mod ListSums

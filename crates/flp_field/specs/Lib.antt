@@ -6,3 +6,5 @@ pub mod Laws
 pub mod Order
 -- roots of unity and their domains
 pub mod Domain
+-- sums of lists of words, word by word
+pub mod Sums

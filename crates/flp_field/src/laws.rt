@@ -1,6 +1,6 @@
 //! The laws of the field, each the contract of a function that does nothing. A caller's proof takes
-//! the law from here; the definitions are in `specs/Laws.antt`, `specs/Order.antt` and
-//! `specs/Domain.antt`.
+//! the law from here; the definitions are in `specs/Laws.antt`, `specs/Order.antt`,
+//! `specs/Domain.antt` and `specs/Sums.antt`.
 //!
 //! That each word but 0 has an inverse rests on the order of 7 alone: nothing here assumes that the
 //! modulus is prime.
@@ -10,6 +10,7 @@ ghost use Rattle.flp_field.specs.Laws.{ProductAssociates, ProductCommutes, Produ
 ghost use Rattle.flp_field.specs.Laws.{NoZeroDivisors, HasInverses, InversesAreUnique, FoldsProduct};
 ghost use Rattle.flp_field.specs.Order.{SevenHasOrder, SevenGenerates, FullPowerIsOne};
 ghost use Rattle.flp_field.specs.Domain.{RootsHaveOrder, DomainIsRoots, PowersDiffer, PowersSumToZero, OnesSumToCount};
+ghost use Rattle.flp_field.specs.Sums.{SumHasWords, SumOfOneList, SumHasFirst};
 
 use crate::word::Fe;
 
@@ -77,6 +78,14 @@ pub fn powers_differ()
 pub fn sums_of_powers()
     ensures zero { PowersSumToZero }
     ensures count { OnesSumToCount }
+{}
+
+/// A sum of lists of n words, word by word, has n words; that of one list is the list, and that of several
+/// is the sum of the first and of the sum of the others.
+pub fn sums_of_lists()
+    ensures words { SumHasWords }
+    ensures one { SumOfOneList }
+    ensures first { SumHasFirst }
 {}
 
 /// Each element of a slice of words is a word. A proof learns it from here, and a build drops the loop.

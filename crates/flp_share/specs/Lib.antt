@@ -1,0 +1,2 @@
+-- Additive shares.
+pub mod Shares
