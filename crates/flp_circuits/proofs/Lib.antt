@@ -22,3 +22,7 @@ pub mod Unrolled
 pub mod Fitting
 -- `check` finds no fault
 pub mod Passing
+-- how many calls the circuits take
+pub mod CallCounts
+-- their plans are small
+pub mod Plans

@@ -1,9 +1,10 @@
 -- What the standard circuits promise: their checks are the formulas, an encoding is valid, and its outs are the measurement's vector.
-use Rattle.std.specs.Prelude.{ℕ, ◌≡◌, ◌+◌, ◌*◌, List, [], ◌∷◌, length, None, Ok}
+use Rattle.std.specs.Prelude.{ℕ, ◌≡◌, ◌≤◌, ◌+◌, ◌*◌, List, [], ◌∷◌, length, None, Ok}
 use Rattle.flp_syntax.specs.declared.syntax.Params.{Params}
 use Rattle.flp_syntax.specs.declared.syntax.Params.TheVariants.{Count, Sum, SumVec, Histogram, Multihot}
 use Rattle.flp_syntax.specs.WellFormed.{ProgramIsWell}
 use Rattle.flp_meaning.specs.Circuit.{checks_of, outs_of, direct, IsValid}
+use Rattle.flp_meaning.specs.Terms.{wire_count, term_count}
 use Rattle.flp_check.specs.Verdict.{Totals, verdict}
 use Rattle.flp_circuits.specs.Bits.{bit_length, IsBitLength}
 use Rattle.flp_circuits.specs.Sizes.{Fits, meas_len_of, quotient_up}
@@ -47,3 +48,9 @@ totals_of (Multihot length weight chunk) = record { calls = quotient_up (meas_le
 -- `check` finds no fault in the circuit of parameters that fit, and counts these
 abbrev pub CircuitsPass : Type 0
 CircuitsPass = (params : Params) → Fits params → verdict (standard_program params) ≡ Ok (totals_of params)
+
+-- a plan of the circuit has at most 1,048,576 wires and as many terms
+abbrev pub PlansAreSmall : Type 0
+PlansAreSmall =
+    (params : Params) → Fits params
+    → (wire_count (standard_program params) ≤ 1048576) × (term_count (standard_program params) ≤ 1048576)

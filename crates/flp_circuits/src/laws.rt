@@ -1,6 +1,6 @@
 //! The laws of the standard circuits, each the contract of a function that does nothing. A caller's proof takes the law
 //! from here; the statements are in `specs/Laws.antt`.
-ghost use Rattle.flp_circuits.specs.Laws.{BitLengthsAreLeast, CircuitsAreWell, ChecksAreFormulas, EncodingsAreValid, EncodingsHaveLength, OutsAreVectors, CircuitsPass};
+ghost use Rattle.flp_circuits.specs.Laws.{BitLengthsAreLeast, CircuitsAreWell, ChecksAreFormulas, EncodingsAreValid, EncodingsHaveLength, OutsAreVectors, CircuitsPass, PlansAreSmall};
 
 /// The bit length of a number is the least exponent whose power of two is above it.
 pub fn bit_lengths()
@@ -28,4 +28,9 @@ pub fn encodings()
 /// `check` finds no fault in the circuit of parameters that fit.
 pub fn circuits_pass()
     ensures { CircuitsPass }
+{}
+
+/// A plan of the circuit of parameters that fit is within the limits on wires and terms.
+pub fn plans_are_small()
+    ensures { PlansAreSmall }
 {}
