@@ -25,9 +25,9 @@ pub exponent_above-is : (n exponent more : ℕ) → n < 2 ^ (exponent + more) �
 exponent_above-is n e zero top low = (let same : e + 0 ≡ e = omega arith in rw same at top, low)
 exponent_above-is n e (suc more) top low =
     cond_both (ltb n (2 ^ e)) e (exponent_above n (suc e) more) (IsBitLength n) (λ lt. (ltb-true n (2 ^ e) lt, low)) (λ ge.
-        let from : 2 ^ e ≤ n = ltb-false n (2 ^ e) ge in
-        let same : e + suc more ≡ suc e + more = omega arith in
-        exponent_above-is n (suc e) more (rw same at top) (λ k h. exponents_apart n e k from h))
+    let from : 2 ^ e ≤ n = ltb-false n (2 ^ e) ge in
+    let same : e + suc more ≡ suc e + more = omega arith in
+    exponent_above-is n (suc e) more (rw same at top) (λ k h. exponents_apart n e k from h))
 
 pub bit_length-is : (n : ℕ) → IsBitLength n (bit_length n)
 unfolding bit_length

@@ -42,8 +42,10 @@ calls_nil join none = record { at = λ made. refl }
 
 pub calls_cons : {A B : Type 0} (join : A → B → B) (none : B) (part : Run A) (more : List (Run A)) (m n : ℕ) → Calls part m → Calls (in_turn join none more) n → Calls (in_turn join none (part ∷ more)) (m + n)
 calls_cons join none part more m n h k =
-    record { at = λ made.
-        map-both (part made).calls (in_turn join none more (made + length (part made).calls)).calls ∙ ap₂ (λ (xs ys : List ℕ). xs ++ ys) (h.at made) (k.at (made + length (part made).calls)) ∙ replicate-both m n }
+    record {
+      at = λ made.
+          map-both (part made).calls (in_turn join none more (made + length (part made).calls)).calls ∙ ap₂ (λ (xs ys : List ℕ). xs ++ ys) (h.at made) (k.at (made + length (part made).calls)) ∙ replicate-both m n;
+    }
 
 calls_numbers : {A B : Type 0} (join : A → B → B) (none : B) (part : ℕ → Run A) (n : ℕ) → ((turn : ℕ) → Calls (part turn) n) → (start count : ℕ) → Calls (in_turn join none (map part (numbers_from start count))) (count * n)
 calls_numbers join none part n turn start zero = calls_as (in_turn join none []) 0 (0 * n) (calls_nil join none) (omega arith)
@@ -53,8 +55,10 @@ calls_numbers join none part n turn start (suc count) =
 
 pub calls_loop : {A B : Type 0} (join : A → B → B) (none : B) (part : ℕ → Run A) (n count : ℕ) → ((turn : ℕ) → Calls (part turn) n) → Calls (in_turn join none (map part (turns 0 count))) (count * n)
 calls_loop join none part n count turn =
-    record { at = λ made.
-        ap (λ (list : List ℕ). map (λ (call : Call). call.gadget) (in_turn join none (map part list) made).calls) (turns-zero count) ∙ (calls_numbers join none part n turn 0 count).at made }
+    record {
+      at = λ made.
+          ap (λ (list : List ℕ). map (λ (call : Call). call.gadget) (in_turn join none (map part list) made).calls) (turns-zero count) ∙ (calls_numbers join none part n turn 0 count).at made;
+    }
 
 pub calls_called : (reading : Reading) (args : Run (List ℕ)) (n : ℕ) → Calls args n → Calls (called reading 0 args) (n + 1)
 calls_called reading args n h =
@@ -115,20 +119,20 @@ module _ (kind : Kind) (reading : Reading) where
   pub calls_each : (at k l n : ℕ) (name : List ℕ) (inner : Statement) (m : ℕ) → ((t : ℕ) → Calls (statement_of (gadget_g kind) reading (inside [] name t) inner) m) → Calls (statement_of (gadget_g kind) reading [] (each at name (idx k 0) (idx l n) (statements (inner ∷ [])))) (n * (m + 0))
   calls_each at k l n name inner m turn =
       calls_loop join_results no_results (λ t. performed (statements_of (gadget_g kind) reading (inside [] name t) (statements (inner ∷ [])))) (m + 0) n (λ t.
-          calls_stmt (inside [] name t) inner no_stmts m 0 (turn t) (calls_nil join_results no_results))
+      calls_stmt (inside [] name t) inner no_stmts m 0 (turn t) (calls_nil join_results no_results))
 
   -- the range check takes a call for each chunk
   pub calls_range : (at calls chunk : ℕ) → Calls (meaning (gadget_g kind) reading [] (range_check at calls chunk)) calls
   calls_range at calls chunk =
       calls_as (meaning (gadget_g kind) reading [] (range_check at calls chunk)) (calls * (chunk * 0 + 0 + 1)) calls
       (calls_loop (λ (a b : ℕ). a + b) 0 (λ c. meaning (gadget_g kind) reading (inside [] name_c c) (chunk_call (at + 7) chunk)) (chunk * 0 + 0 + 1) calls (λ c.
-          let there = inside [] name_c c in
-          let inner = arguments (chunk_args (at + 7 + 9) chunk) in
-          let each_one = each_arg (at + 7 + 2) name_j (idx (at + 7 + 5) 0) (idx (at + 7 + 7) chunk) inner in
-          calls_called reading (listed (arguments_of (gadget_g kind) reading there (arguments (each_one ∷ [])))) (chunk * 0 + 0)
-          (calls_cons (λ (a b : List ℕ). a ++ b) [] (argument_of (gadget_g kind) reading there each_one) [] (chunk * 0) 0
-           (calls_loop (λ (a b : List ℕ). a ++ b) [] (λ j. listed (arguments_of (gadget_g kind) reading (inside there name_j j) inner)) 0 chunk (λ j. record { at = λ made. refl }))
-           (calls_nil (λ (a b : List ℕ). a ++ b) []))))
+      let there = inside [] name_c c in
+      let inner = arguments (chunk_args (at + 7 + 9) chunk) in
+      let each_one = each_arg (at + 7 + 2) name_j (idx (at + 7 + 5) 0) (idx (at + 7 + 7) chunk) inner in
+      calls_called reading (listed (arguments_of (gadget_g kind) reading there (arguments (each_one ∷ [])))) (chunk * 0 + 0)
+      (calls_cons (λ (a b : List ℕ). a ++ b) [] (argument_of (gadget_g kind) reading there each_one) [] (chunk * 0) 0
+      (calls_loop (λ (a b : List ℕ). a ++ b) [] (λ j. listed (arguments_of (gadget_g kind) reading (inside there name_j j) inner)) 0 chunk (λ j. record { at = λ made. refl }))
+      (calls_nil (λ (a b : List ℕ). a ++ b) []))))
       (omega arith)
 
 -- ---- whole circuits
@@ -151,10 +155,10 @@ calls_sum b f =
     let number = bits_sum 72 name_i b (index_var 85 name_i) in
     calls_as (performed (statements_of (gadget_g kind) blank [] (sum_program b f).stmts)) (2 * b * (1 + 0) + (0 + (0 + 0))) (2 * b)
     (calls_stmt kind blank [] (each 15 name_i (idx 18 0) (idx 20 (2 * b)) (statements (bit ∷ []))) (statements (check 32 balance ∷ out 71 number ∷ [])) (2 * b * (1 + 0)) (0 + (0 + 0))
-     (calls_each kind blank 15 18 20 (2 * b) name_i bit 1 (λ t. record { at = λ made. refl }))
-     (calls_stmt kind blank [] (check 32 balance) (statements (out 71 number ∷ [])) 0 (0 + 0)
-      (calls_check kind blank [] 32 balance 0 (calls_balance kind blank 33 (num 33 f) low high (calls_none f) (calls_bits kind blank [] 35 b name_i (index_var 48 name_i)) (calls_bits kind blank [] 52 b name_i (shifted 65 b name_i))))
-      (calls_stmt kind blank [] (out 71 number) no_stmts 0 0 (calls_out kind blank [] 71 number 0 (calls_bits kind blank [] 72 b name_i (index_var 85 name_i))) (calls_nil join_results no_results))))
+    (calls_each kind blank 15 18 20 (2 * b) name_i bit 1 (λ t. record { at = λ made. refl }))
+    (calls_stmt kind blank [] (check 32 balance) (statements (out 71 number ∷ [])) 0 (0 + 0)
+    (calls_check kind blank [] 32 balance 0 (calls_balance kind blank 33 (num 33 f) low high (calls_none f) (calls_bits kind blank [] 35 b name_i (index_var 48 name_i)) (calls_bits kind blank [] 52 b name_i (shifted 65 b name_i))))
+    (calls_stmt kind blank [] (out 71 number) no_stmts 0 0 (calls_out kind blank [] 71 number 0 (calls_bits kind blank [] 72 b name_i (index_var 85 name_i))) (calls_nil join_results no_results))))
     (omega arith)
 
 calls_chunked : (words chunk : ℕ) (more : List Statement) → Calls (performed (statements_of (gadget_g (psum_kind chunk mul_kind)) blank [] (statements more))) 0 → Calls (performed (statements_of (chunked_program words chunk more).gadgets blank [] (chunked_program words chunk more).stmts)) (quotient_up words chunk)
@@ -169,7 +173,7 @@ calls_each_out : (kind : Kind) (at n : ℕ) (inner : Tree) → ((t : ℕ) → Ca
 calls_each_out kind at n inner turn =
     calls_as (performed (statements_of (gadget_g kind) blank [] (statements (each_out at name_i n inner ∷ [])))) (n * (0 + 0) + 0) 0
     (calls_stmt kind blank [] (each_out at name_i n inner) no_stmts (n * (0 + 0)) 0
-     (calls_each kind blank at (at + 3) (at + 5) n name_i (out (at + 7) inner) 0 (λ t. calls_out kind blank (inside [] name_i t) (at + 7) inner 0 (turn t))) (calls_nil join_results no_results))
+    (calls_each kind blank at (at + 3) (at + 5) n name_i (out (at + 7) inner) 0 (λ t. calls_out kind blank (inside [] name_i t) (at + 7) inner 0 (turn t))) (calls_nil join_results no_results))
     (omega arith)
 
 pub made_sum : (b f : ℕ) → calls_made (sum_program b f) 0 ≡ 2 * b
@@ -189,13 +193,13 @@ made_histogram words length chunk =
     let kind = psum_kind chunk mul_kind in
     made-from (chunked_program words chunk (histogram_statements length)) (quotient_up words chunk) (calls_chunked words chunk (histogram_statements length)
     (calls_stmt kind blank [] (one_check_stmt length) (statements (each_word_out 82 length ∷ [])) 0 0
-     (calls_check kind blank [] 66 (add 67 (items ((false, words_sum 67 name_i length) ∷ (true, num 80 1) ∷ []))) 0 (calls_difference kind blank 67 (words_sum 67 name_i length) (num 80 1) (calls_words kind blank 67 length) (calls_none 1)))
-     (calls_word_outs kind 82 length)))
+    (calls_check kind blank [] 66 (add 67 (items ((false, words_sum 67 name_i length) ∷ (true, num 80 1) ∷ []))) 0 (calls_difference kind blank 67 (words_sum 67 name_i length) (num 80 1) (calls_words kind blank 67 length) (calls_none 1)))
+    (calls_word_outs kind 82 length)))
 
 pub made_multihot : (words length b f chunk : ℕ) → calls_made (chunked_program words chunk (multihot_statements length b f)) 0 ≡ quotient_up words chunk
 made_multihot words length b f chunk =
     let kind = psum_kind chunk mul_kind in
     made-from (chunked_program words chunk (multihot_statements length b f)) (quotient_up words chunk) (calls_chunked words chunk (multihot_statements length b f)
     (calls_stmt kind blank [] (weight_check length b f) (statements (each_word_out 101 length ∷ [])) 0 0
-     (calls_check kind blank [] 66 (add 67 (items ((false, num 67 f) ∷ (false, words_sum 69 name_i length) ∷ (true, bits_sum 82 name_i b (shifted 95 length name_i)) ∷ []))) 0 (calls_balance kind blank 67 (num 67 f) (words_sum 69 name_i length) (bits_sum 82 name_i b (shifted 95 length name_i)) (calls_none f) (calls_words kind blank 69 length) (calls_bits kind blank [] 82 b name_i (shifted 95 length name_i))))
-     (calls_word_outs kind 101 length)))
+    (calls_check kind blank [] 66 (add 67 (items ((false, num 67 f) ∷ (false, words_sum 69 name_i length) ∷ (true, bits_sum 82 name_i b (shifted 95 length name_i)) ∷ []))) 0 (calls_balance kind blank 67 (num 67 f) (words_sum 69 name_i length) (bits_sum 82 name_i b (shifted 95 length name_i)) (calls_none f) (calls_words kind blank 69 length) (calls_bits kind blank [] 82 b name_i (shifted 95 length name_i))))
+    (calls_word_outs kind 101 length)))

@@ -49,12 +49,11 @@ chunk-value a b chunk =
     ∙ pairs-value a b (numbers_from 0 chunk)
 
 module _ (kind : Kind) (body : Program) (x joint : List ℕ) where
-
   -- `sum name in 0..n ( 2^name * meas[place] )`
   pub gives_bits : (scope : Scope) (at n : ℕ) (name : List ℕ) (place : Index) (f : ℕ → ℕ) → ((t : ℕ) → bound_value (inside scope name t) name ≡ t) → ((t : ℕ) → index_value (inside scope name t) place ≡ f t) → Gives (meaning (gadget_g kind) (direct body x joint) scope (bits_sum at name n place)) (sum_below n (λ t. 2 ^ t * word x (f t)))
   gives_bits scope at n name place f named placed =
       gives_sum (λ t. meaning (gadget_g kind) (direct body x joint) (inside scope name t) (mul (at + 7) (trees (pow (at + 7) (num (at + 7) 2) (index_var (at + 9) name) ∷ meas (at + 11) place ∷ [])))) (λ t. 2 ^ t * word x (f t)) n (λ t.
-          record { at = λ made. ap₂ (λ (k i : ℕ). 2 ^ k * (slice_index x i * 1)) (named t) (placed t) ∙ (let whole : 2 ^ t * (slice_index x (f t) * 1) ≡ 2 ^ t * slice_index x (f t) = omega arith in whole) })
+      record { at = λ made. ap₂ (λ (k i : ℕ). 2 ^ k * (slice_index x i * 1)) (named t) (placed t) ∙ (let whole : 2 ^ t * (slice_index x (f t) * 1) ≡ 2 ^ t * slice_index x (f t) = omega arith in whole) })
 
   -- `sum i in 0..n ( meas[i] )`
   pub gives_words : (at n : ℕ) → Gives (meaning (gadget_g kind) (direct body x joint) [] (words_sum at name_i n)) (sum_below n (word x))
@@ -84,7 +83,7 @@ module _ (kind : Kind) (body : Program) (x joint : List ℕ) where
       let mixed = has_shared_item list in
       gives_as (total (items_of (gadget_g kind) (direct body x joint) [] mixed list)) (v + ((modulus - 1) * w + 0)) (minus v w)
       (gives_item mixed false first (items ((true, second) ∷ [])) v ((modulus - 1) * w + 0) h
-       (gives_item mixed true second (items []) w 0 k (gives_nil (λ (a b : ℕ). a + b) 0)))
+      (gives_item mixed true second (items []) w 0 k (gives_nil (λ (a b : ℕ). a + b) 0)))
       (let whole : v + ((modulus - 1) * w + 0) ≡ v + (modulus - 1) * w = omega arith in whole)
 
   -- `first + second - third`
@@ -94,8 +93,8 @@ module _ (kind : Kind) (body : Program) (x joint : List ℕ) where
       let mixed = has_shared_item list in
       gives_as (total (items_of (gadget_g kind) (direct body x joint) [] mixed list)) (u + (v + ((modulus - 1) * w + 0))) (minus (u + v) w)
       (gives_item mixed false first (items ((false, second) ∷ (true, third) ∷ [])) u (v + ((modulus - 1) * w + 0)) h
-       (gives_item mixed false second (items ((true, third) ∷ [])) v ((modulus - 1) * w + 0) k
-        (gives_item mixed true third (items []) w 0 l (gives_nil (λ (a b : ℕ). a + b) 0))))
+      (gives_item mixed false second (items ((true, third) ∷ [])) v ((modulus - 1) * w + 0) k
+      (gives_item mixed true third (items []) w 0 l (gives_nil (λ (a b : ℕ). a + b) 0))))
       (let whole : u + (v + ((modulus - 1) * w + 0)) ≡ u + v + (modulus - 1) * w = omega arith in whole)
 
   -- statements
@@ -115,7 +114,7 @@ module _ (kind : Kind) (body : Program) (x joint : List ℕ) where
   pub gives_each_out : (at n : ℕ) (name : List ℕ) (inner : Tree) (f : ℕ → ℕ) → ((t : ℕ) → Gives (meaning (gadget_g kind) (direct body x joint) (inside [] name t) inner) (f t)) → Gives (statement_of (gadget_g kind) (direct body x joint) [] (each_out at name n inner)) (outs_only (map (λ t. f t % modulus) (numbers_from 0 n)))
   gives_each_out at n name inner f h =
       gives_outs (λ t. performed (statements_of (gadget_g kind) (direct body x joint) (inside [] name t) (statements (out (at + 7) inner ∷ [])))) (λ t. f t % modulus) n (λ t.
-          gives_stmt (inside [] name t) (out (at + 7) inner) no_stmts (outs_only (f t % modulus ∷ [])) no_results (gives_out (inside [] name t) (at + 7) inner (f t) (h t)) (gives_nil join_results no_results))
+      gives_stmt (inside [] name t) (out (at + 7) inner) no_stmts (outs_only (f t % modulus ∷ [])) no_results (gives_out (inside [] name t) (at + 7) inner (f t) (h t)) (gives_nil join_results no_results))
 
   -- the arguments of the range check at call c
   abbrev pub weighted : ℕ → ℕ → ℕ → ℕ
@@ -130,26 +129,26 @@ module _ (kind : Kind) (body : Program) (x joint : List ℕ) where
       let each_one = each_arg (at + 2) name_j (idx (at + 5) 0) (idx (at + 7) chunk) (arguments (chunk_args (at + 9) chunk)) in
       gives_cons (λ (a b : List ℕ). a ++ b) [] (argument_of (gadget_g kind) (direct body x joint) scope each_one) [] (flat_map (pair (weighted chunk c) (less_one chunk c)) (numbers_from 0 chunk)) []
       (gives_list (λ j. listed (arguments_of (gadget_g kind) (direct body x joint) (inside scope name_j j) (arguments (chunk_args (at + 9) chunk)))) (pair (weighted chunk c) (less_one chunk c)) chunk (λ j.
-          let power : 0 + j + 1 ≡ j + 1 = omega arith in
-          let place : 0 + 1 * c * chunk + j ≡ c * chunk + j = omega arith in
-          let first : slice_index joint c ^ (0 + j + 1) * (slice_index x (0 + 1 * c * chunk + j) * 1) ≡ weighted chunk c j =
-              ap₂ (λ (k i : ℕ). slice_index joint c ^ k * (slice_index x i * 1)) power place ∙ (let e : slice_index joint c ^ (j + 1) * (slice_index x (c * chunk + j) * 1) ≡ weighted chunk c j = omega arith in e) in
-          let second : slice_index x (0 + 1 * c * chunk + j) + ((modulus - 1) * (1 * 1) + 0) ≡ less_one chunk c j =
-              ap (λ (i : ℕ). slice_index x i + ((modulus - 1) * (1 * 1) + 0)) place ∙ (let e : slice_index x (c * chunk + j) + ((modulus - 1) * (1 * 1) + 0) ≡ less_one chunk c j = omega arith in e) in
-          record { at = λ made. ap₂ (λ (a b : ℕ). a % modulus ∷ b % modulus ∷ []) first second }))
+      let power : 0 + j + 1 ≡ j + 1 = omega arith in
+      let place : 0 + 1 * c * chunk + j ≡ c * chunk + j = omega arith in
+      let first : slice_index joint c ^ (0 + j + 1) * (slice_index x (0 + 1 * c * chunk + j) * 1) ≡ weighted chunk c j =
+      ap₂ (λ (k i : ℕ). slice_index joint c ^ k * (slice_index x i * 1)) power place ∙ (let e : slice_index joint c ^ (j + 1) * (slice_index x (c * chunk + j) * 1) ≡ weighted chunk c j = omega arith in e) in
+      let second : slice_index x (0 + 1 * c * chunk + j) + ((modulus - 1) * (1 * 1) + 0) ≡ less_one chunk c j =
+      ap (λ (i : ℕ). slice_index x i + ((modulus - 1) * (1 * 1) + 0)) place ∙ (let e : slice_index x (c * chunk + j) + ((modulus - 1) * (1 * 1) + 0) ≡ less_one chunk c j = omega arith in e) in
+      record { at = λ made. ap₂ (λ (a b : ℕ). a % modulus ∷ b % modulus ∷ []) first second }))
       (gives_nil (λ (a b : List ℕ). a ++ b) [])
 
   -- the range check, before it is taken modulo p
   pub gives_range : (at calls chunk : ℕ) → Gives (meaning (gadget_g kind) (direct body x joint) [] (range_check at calls chunk)) (sum_below calls (λ c. value_of (kind_of body 0) (flat_map (pair (weighted chunk c) (less_one chunk c)) (numbers_from 0 chunk) ++ [])))
   gives_range at calls chunk =
       gives_sum (λ c. meaning (gadget_g kind) (direct body x joint) (inside [] name_c c) (chunk_call (at + 7) chunk)) (λ c. value_of (kind_of body 0) (flat_map (pair (weighted chunk c) (less_one chunk c)) (numbers_from 0 chunk) ++ [])) calls (λ c.
-          gives_called (direct body x joint) 0 (listed (arguments_of (gadget_g kind) (direct body x joint) (inside [] name_c c) (arguments (each_arg (at + 7 + 2) name_j (idx (at + 7 + 5) 0) (idx (at + 7 + 7) chunk) (arguments (chunk_args (at + 7 + 9) chunk)) ∷ []))))
-          (flat_map (pair (weighted chunk c) (less_one chunk c)) (numbers_from 0 chunk) ++ []) (λ call. value_of (kind_of body call.gadget) call.inputs) (λ number call. refl) (gives_chunk_args (at + 7) chunk c))
+      gives_called (direct body x joint) 0 (listed (arguments_of (gadget_g kind) (direct body x joint) (inside [] name_c c) (arguments (each_arg (at + 7 + 2) name_j (idx (at + 7 + 5) 0) (idx (at + 7 + 7) chunk) (arguments (chunk_args (at + 7 + 9) chunk)) ∷ []))))
+      (flat_map (pair (weighted chunk c) (less_one chunk c)) (numbers_from 0 chunk) ++ []) (λ call. value_of (kind_of body call.gadget) call.inputs) (λ number call. refl) (gives_chunk_args (at + 7) chunk c))
 
   -- and where the gadget is the sum of products over chunks, it is the formula
   pub range-formula : (calls chunk : ℕ) → Same (sum_below calls (λ c. value_of (Psum Mul chunk) (flat_map (pair (weighted chunk c) (less_one chunk c)) (numbers_from 0 chunk) ++ []))) (range_sum x joint calls chunk)
   range-formula calls chunk =
       sum_by-same (λ c. value_of (Psum Mul chunk) (flat_map (pair (weighted chunk c) (less_one chunk c)) (numbers_from 0 chunk) ++ [])) (λ c. sum_below chunk (λ j. word joint c ^ (j + 1) * (word x (c * chunk + j) * minus (word x (c * chunk + j)) 1))) (λ c.
-          chunk-value (weighted chunk c) (less_one chunk c) chunk
-          ∙ sum_by-same (λ j. weighted chunk c j * less_one chunk c j) (λ j. word joint c ^ (j + 1) * (word x (c * chunk + j) * minus (word x (c * chunk + j)) 1)) (λ j. same_eq _ _ (mul_assoc (word joint c ^ (j + 1)) (word x (c * chunk + j)) (less_one chunk c j))) (numbers_from 0 chunk))
+      chunk-value (weighted chunk c) (less_one chunk c) chunk
+      ∙ sum_by-same (λ j. weighted chunk c j * less_one chunk c j) (λ j. word joint c ^ (j + 1) * (word x (c * chunk + j) * minus (word x (c * chunk + j)) 1)) (λ j. same_eq _ _ (mul_assoc (word joint c ^ (j + 1)) (word x (c * chunk + j)) (less_one chunk c j))) (numbers_from 0 chunk))
       (numbers_from 0 calls)

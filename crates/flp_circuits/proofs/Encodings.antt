@@ -40,10 +40,10 @@ product_zero (suc (suc w)) h = absurd (omega arith)
 range_zero : (x joint : List ℕ) (calls chunk : ℕ) → ((i : ℕ) → word x i < 2) → range_sum x joint calls chunk % modulus ≡ 0
 range_zero x joint calls chunk bits =
     sum_by-same (λ c. sum_below chunk (λ j. word joint c ^ (j + 1) * (word x (c * chunk + j) * minus (word x (c * chunk + j)) 1))) (λ c. 0) (λ c.
-        sum_by-same (λ j. word joint c ^ (j + 1) * (word x (c * chunk + j) * minus (word x (c * chunk + j)) 1)) (λ j. 0) (λ j.
-            same_mul (word joint c ^ (j + 1)) (word joint c ^ (j + 1)) (word x (c * chunk + j) * minus (word x (c * chunk + j)) 1) 0 refl (product_zero (word x (c * chunk + j)) (bits (c * chunk + j)))
-            ∙ (let none : word joint c ^ (j + 1) * 0 ≡ 0 = omega arith in same_eq _ _ none)) (numbers_from 0 chunk)
-        ∙ same_eq _ _ (sum_by-none (numbers_from 0 chunk))) (numbers_from 0 calls)
+    sum_by-same (λ j. word joint c ^ (j + 1) * (word x (c * chunk + j) * minus (word x (c * chunk + j)) 1)) (λ j. 0) (λ j.
+    same_mul (word joint c ^ (j + 1)) (word joint c ^ (j + 1)) (word x (c * chunk + j) * minus (word x (c * chunk + j)) 1) 0 refl (product_zero (word x (c * chunk + j)) (bits (c * chunk + j)))
+    ∙ (let none : word joint c ^ (j + 1) * 0 ≡ 0 = omega arith in same_eq _ _ none)) (numbers_from 0 chunk)
+    ∙ same_eq _ _ (sum_by-none (numbers_from 0 chunk))) (numbers_from 0 calls)
     ∙ same_eq _ _ (sum_by-none (numbers_from 0 calls))
 
 -- a + b balances b + a
@@ -125,7 +125,7 @@ formulas_zero (Multihot count weight chunk) input joint h =
     let bits = word-bit x (All-append (λ n. n < 2) input (bits_of b raised_sum) h.in_range (bits_of-bits b raised_sum)) in
     let long : length input ≡ count = h.count in
     let low : sum_below count (word x) ≡ sum input =
-        sum_by-on (word x) (word input) 0 count (λ i low high. word-left input (bits_of b raised_sum) i (omega arith)) ∙ ap (λ (k : ℕ). sum_below k (word input)) (sym long) ∙ sum_words input in
+    sum_by-on (word x) (word input) 0 count (λ i low high. word-left input (bits_of b raised_sum) i (omega arith)) ∙ ap (λ (k : ℕ). sum_below k (word input)) (sym long) ∙ sum_words input in
     let high : number_at x count b ≡ raised_sum = number_at-behind input count b raised_sum long (raised weight (sum input) light) in
     two_zero _ _ (range_zero x joint (quotient_up (count + b) chunk) chunk bits) (balanced (headroom weight) (sum_below count (word x)) (number_at x count b) (high ∙ ap (λ (k : ℕ). k + headroom weight) (sym low)))
 
@@ -175,12 +175,12 @@ formulas_outs (SumVec count bits chunk) input fits h =
     let x = flat_map (bits_of bits) input in
     let long : length input ≡ count = h.count in
     map-on (λ i. sum_below bits (λ j. 2 ^ j * word x (i * bits + j)) % modulus) (word input) 0 count (λ i low high.
-        let in_range : word input i < 2 ^ bits = All-get_or (λ n. n < 2 ^ bits) input i 0 (omega arith) h.in_range in
-        ap (λ (v : ℕ). v % modulus)
-        (sum_by-on (λ j. 2 ^ j * word x (i * bits + j)) (λ j. 2 ^ j * word (bits_of bits (word input i)) j) 0 bits (λ j least most.
-            ap (λ (w : ℕ). 2 ^ j * w) (word-flat_map (bits_of bits) bits (length-bits_of bits) input i j (omega arith) (omega arith)))
-        ∙ number-bits_of bits (word input i) in_range)
-        ∙ below_word (word input i) bits in_range (sum_vec_fits count bits chunk fits))
+    let in_range : word input i < 2 ^ bits = All-get_or (λ n. n < 2 ^ bits) input i 0 (omega arith) h.in_range in
+    ap (λ (v : ℕ). v % modulus)
+    (sum_by-on (λ j. 2 ^ j * word x (i * bits + j)) (λ j. 2 ^ j * word (bits_of bits (word input i)) j) 0 bits (λ j least most.
+    ap (λ (w : ℕ). 2 ^ j * w) (word-flat_map (bits_of bits) bits (length-bits_of bits) input i j (omega arith) (omega arith)))
+    ∙ number-bits_of bits (word input i) in_range)
+    ∙ below_word (word input i) bits in_range (sum_vec_fits count bits chunk fits))
     ∙ ap (λ (k : ℕ). map (word input) (numbers_from 0 k)) (sym long) ∙ map_words input
 formulas_outs (Histogram buckets chunk) input fits h =
     let place = the_number input in

@@ -59,39 +59,49 @@ meets_none = record { at = λ a room. ap (λ (t : Tally). Ok (counts_at t)) (tal
 
 pub meets_append : (xs ys : List Event) (t u : Tally) → Meets xs t → Meets ys u → Meets (xs ++ ys) (added t u)
 meets_append xs ys t u h k =
-    record { at = λ a room.
-        let front : HasRoom (added a t) = record { visits = omega (arith, room.visits); calls = omega (arith, room.calls); checks = omega (arith, room.checks); outs = omega (arith, room.outs) } in
-        let back : HasRoom (added (added a t) u) = record { visits = omega (arith, room.visits); calls = omega (arith, room.calls); checks = omega (arith, room.checks); outs = omega (arith, room.outs) } in
-        walk-append xs ys (counts_at a) ∙ ap (λ (r : Result Counts LangFault). go_on r (λ b. walk b ys)) (h.at a front) ∙ k.at (added a t) back
-        ∙ ap (λ (s : Tally). Ok (counts_at s)) (tally-same (added (added a t) u) (added a (added t u)) (omega arith) (omega arith) (omega arith) (omega arith)) }
+    record {
+      at = λ a room.
+          let front : HasRoom (added a t) = record { visits = omega (arith, room.visits); calls = omega (arith, room.calls); checks = omega (arith, room.checks); outs = omega (arith, room.outs) } in
+          let back : HasRoom (added (added a t) u) = record { visits = omega (arith, room.visits); calls = omega (arith, room.calls); checks = omega (arith, room.checks); outs = omega (arith, room.outs) } in
+          walk-append xs ys (counts_at a) ∙ ap (λ (r : Result Counts LangFault). go_on r (λ b. walk b ys)) (h.at a front) ∙ k.at (added a t) back
+          ∙ ap (λ (s : Tally). Ok (counts_at s)) (tally-same (added (added a t) u) (added a (added t u)) (omega arith) (omega arith) (omega arith) (omega arith));
+    }
 
 pub meets_visit : Meets (visit ∷ []) (nodes 1)
 meets_visit =
-    record { at = λ a room.
-        let below : a.visits < 4194304 = omega (arith, room.visits) in
-        ap (λ (b : Bool). go_on (cond b (Ok (record (counts_at a) { visits = suc a.visits })) (Err (Limit counted.Visits 4194305))) (λ after. walk after [])) (lt-ltb a.visits 4194304 below)
-        ∙ ap (λ (s : Tally). Ok (counts_at s)) (tally-same (tally (suc a.visits) a.calls a.checks a.outs) (added a (nodes 1)) (omega arith) (omega arith) (omega arith) (omega arith)) }
+    record {
+      at = λ a room.
+          let below : a.visits < 4194304 = omega (arith, room.visits) in
+          ap (λ (b : Bool). go_on (cond b (Ok (record (counts_at a) { visits = suc a.visits })) (Err (Limit counted.Visits 4194305))) (λ after. walk after [])) (lt-ltb a.visits 4194304 below)
+          ∙ ap (λ (s : Tally). Ok (counts_at s)) (tally-same (tally (suc a.visits) a.calls a.checks a.outs) (added a (nodes 1)) (omega arith) (omega arith) (omega arith) (omega arith));
+    }
 
 pub meets_call : Meets (gadget_call 0 ∷ []) (tally 0 1 0 0)
 meets_call =
-    record { at = λ a room.
-        let below : a.calls < 4095 = omega (arith, room.calls) in
-        ap (λ (b : Bool). go_on (cond b (Ok (record (counts_at a) { calls = suc a.calls ∷ [] })) (Err (Limit counted.Calls 4096))) (λ after. walk after [])) (lt-ltb a.calls 4095 below)
-        ∙ ap (λ (s : Tally). Ok (counts_at s)) (tally-same (tally a.visits (suc a.calls) a.checks a.outs) (added a (tally 0 1 0 0)) (omega arith) (omega arith) (omega arith) (omega arith)) }
+    record {
+      at = λ a room.
+          let below : a.calls < 4095 = omega (arith, room.calls) in
+          ap (λ (b : Bool). go_on (cond b (Ok (record (counts_at a) { calls = suc a.calls ∷ [] })) (Err (Limit counted.Calls 4096))) (λ after. walk after [])) (lt-ltb a.calls 4095 below)
+          ∙ ap (λ (s : Tally). Ok (counts_at s)) (tally-same (tally a.visits (suc a.calls) a.checks a.outs) (added a (tally 0 1 0 0)) (omega arith) (omega arith) (omega arith) (omega arith));
+    }
 
 pub meets_check : Meets (a_check ∷ []) (tally 0 0 1 0)
 meets_check =
-    record { at = λ a room.
-        let below : a.checks < 65536 = omega (arith, room.checks) in
-        ap (λ (b : Bool). go_on (cond b (Ok (record (counts_at a) { checks = suc a.checks })) (Err (Limit counted.Checks 65537))) (λ after. walk after [])) (lt-ltb a.checks 65536 below)
-        ∙ ap (λ (s : Tally). Ok (counts_at s)) (tally-same (tally a.visits a.calls (suc a.checks) a.outs) (added a (tally 0 0 1 0)) (omega arith) (omega arith) (omega arith) (omega arith)) }
+    record {
+      at = λ a room.
+          let below : a.checks < 65536 = omega (arith, room.checks) in
+          ap (λ (b : Bool). go_on (cond b (Ok (record (counts_at a) { checks = suc a.checks })) (Err (Limit counted.Checks 65537))) (λ after. walk after [])) (lt-ltb a.checks 65536 below)
+          ∙ ap (λ (s : Tally). Ok (counts_at s)) (tally-same (tally a.visits a.calls (suc a.checks) a.outs) (added a (tally 0 0 1 0)) (omega arith) (omega arith) (omega arith) (omega arith));
+    }
 
 pub meets_out : Meets (an_out ∷ []) (tally 0 0 0 1)
 meets_out =
-    record { at = λ a room.
-        let below : a.outs < 65536 = omega (arith, room.outs) in
-        ap (λ (b : Bool). go_on (cond b (Ok (record (counts_at a) { outs = suc a.outs })) (Err (Limit counted.Outs 65537))) (λ after. walk after [])) (lt-ltb a.outs 65536 below)
-        ∙ ap (λ (s : Tally). Ok (counts_at s)) (tally-same (tally a.visits a.calls a.checks (suc a.outs)) (added a (tally 0 0 0 1)) (omega arith) (omega arith) (omega arith) (omega arith)) }
+    record {
+      at = λ a room.
+          let below : a.outs < 65536 = omega (arith, room.outs) in
+          ap (λ (b : Bool). go_on (cond b (Ok (record (counts_at a) { outs = suc a.outs })) (Err (Limit counted.Outs 65537))) (λ after. walk after [])) (lt-ltb a.outs 65536 below)
+          ∙ ap (λ (s : Tally). Ok (counts_at s)) (tally-same (tally a.visits a.calls a.checks (suc a.outs)) (added a (tally 0 0 0 1)) (omega arith) (omega arith) (omega arith) (omega arith));
+    }
 
 -- a node before its parts
 pub meets_node : (parts : List Event) (t : Tally) → Meets parts t → Meets (visit ∷ parts) (added (nodes 1) t)

@@ -50,8 +50,8 @@ uncalled-none (suc calls) h = refl
 closed-ok : (t : Tally) → HasRoom t → 1 ≤ t.calls → 1 ≤ t.checks → 1 ≤ t.outs → closed (counts_at t) ≡ Ok (record { calls = t.calls ∷ []; checks = t.checks; outs = t.outs })
 closed-ok t room called checked listed =
     let ends : closing_faults (t.calls ∷ []) t.checks t.outs ≡ [] =
-        ap (λ (list : List LangFault). list ++ (outside counted.Checks 1 65536 t.checks ++ outside counted.Outs 1 65536 t.outs)) (uncalled-none t.calls called)
-        ∙ ap₂ (λ (a b : List LangFault). a ++ b) (outside-none counted.Checks 1 65536 t.checks checked room.checks) (outside-none counted.Outs 1 65536 t.outs listed room.outs) in
+    ap (λ (list : List LangFault). list ++ (outside counted.Checks 1 65536 t.checks ++ outside counted.Outs 1 65536 t.outs)) (uncalled-none t.calls called)
+    ∙ ap₂ (λ (a b : List LangFault). a ++ b) (outside-none counted.Checks 1 65536 t.checks checked room.checks) (outside-none counted.Outs 1 65536 t.outs listed room.outs) in
     ap (λ (list : List LangFault). unless (first list) (Ok (totals_of (counts_at t)))) ends
 
 passes : (body : Program) (t : Tally) → declared_faults body ≡ [] → text_flaws body ≡ [] → no_counts body ≡ counts_at (nodes 0) → Meets (body_events body) t → HasRoom t → 1 ≤ t.calls → 1 ≤ t.checks → 1 ≤ t.outs → verdict body ≡ Ok (record { calls = t.calls ∷ []; checks = t.checks; outs = t.outs })
@@ -59,7 +59,7 @@ passes body t declared flawless start met room called checked listed =
     let from_start : added (nodes 0) t ≡ t = tally-same (added (nodes 0) t) t (omega arith) (omega arith) (omega arith) (omega arith) in
     let room_there : HasRoom (added (nodes 0) t) = record { visits = omega (arith, room.visits); calls = omega (arith, room.calls); checks = omega (arith, room.checks); outs = omega (arith, room.outs) } in
     let walked : walk (no_counts body) (body_events body) ≡ Ok (counts_at t) =
-        ap (λ (c : Counts). walk c (body_events body)) start ∙ met.at (nodes 0) room_there ∙ ap (λ (s : Tally). Ok (counts_at s)) from_start in
+    ap (λ (c : Counts). walk c (body_events body)) start ∙ met.at (nodes 0) room_there ∙ ap (λ (s : Tally). Ok (counts_at s)) from_start in
     ap (λ list. unless (first list) (unless (option_map flaw_fault (first_flaw (text_flaws body))) (go_on (walk (no_counts body) (body_events body)) closed))) declared
     ∙ ap (λ list. unless (option_map flaw_fault (first_flaw list)) (go_on (walk (no_counts body) (body_events body)) closed)) flawless
     ∙ ap (λ r. go_on r closed) walked ∙ closed-ok t room called checked listed
@@ -73,8 +73,8 @@ each_bit_met b f i below few =
     let word : Meets (tree_events body there (meas 25 (index_var 27 name_i))) (nodes (1 + (1 + 0))) = meets_meas body there 25 (index_var 27 name_i) 1 (meets_var there 27 name_i (omega arith)) below in
     let args : Meets (tree_events body there (meas 25 (index_var 27 name_i)) ++ []) (added (nodes 2) (nodes 0)) = meets_append (tree_events body there (meas 25 (index_var 27 name_i))) [] (nodes 2) (nodes 0) word meets_none in
     let called : Meets (tree_events body there (call 23 name_g (arguments (one (meas 25 (index_var 27 name_i)) ∷ [])))) (tally 3 1 0 0) =
-        meets_node ((tree_events body there (meas 25 (index_var 27 name_i)) ++ []) ++ call_events body.gadgets 23 (Some 0) 1) (tally 2 1 0 0)
-        (meets_append (tree_events body there (meas 25 (index_var 27 name_i)) ++ []) (call_events body.gadgets 23 (Some 0) 1) (added (nodes 2) (nodes 0)) (tally 0 1 0 0) args meets_call) in
+    meets_node ((tree_events body there (meas 25 (index_var 27 name_i)) ++ []) ++ call_events body.gadgets 23 (Some 0) 1) (tally 2 1 0 0)
+    (meets_append (tree_events body there (meas 25 (index_var 27 name_i)) ++ []) (call_events body.gadgets 23 (Some 0) 1) (added (nodes 2) (nodes 0)) (tally 0 1 0 0) args meets_call) in
     meets_check_stmt body there 22 (call 23 name_g (arguments (one (meas 25 (index_var 27 name_i)) ∷ []))) (tally 3 1 0 0) called
 
 sum_tally : ℕ → Tally
@@ -90,24 +90,24 @@ sum_met b f few =
     let balance = add 33 (items ((false, num 33 f) ∷ (false, low) ∷ (true, high) ∷ [])) in
     let number = bits_sum 72 name_i b (index_var 85 name_i) in
     let bits_met : Meets (stmt_events body [] bits) (added (nodes 1) (added (nodes (1 + 1)) (times (2 * b) (added (tally 4 1 1 0) (nodes 0))))) =
-        meets_each body 15 18 20 (2 * b) name_i (check 22 (call 23 name_g (arguments (one (meas 25 (index_var 27 name_i)) ∷ [])))) (tally 4 1 1 0) (omega arith) (λ i below. each_bit_met b f i below few) in
+    meets_each body 15 18 20 (2 * b) name_i (check 22 (call 23 name_g (arguments (one (meas 25 (index_var 27 name_i)) ∷ [])))) (tally 4 1 1 0) (omega arith) (λ i below. each_bit_met b f i below few) in
     let low_met : Meets (tree_events body [] low) (nodes (3 + b * (5 + 1))) =
-        meets_bits body [] 35 b name_i (index_var 48 name_i) 1 (omega arith) (λ i. refl) (λ i below. meets_var (inside [] name_i i) 48 name_i (omega arith)) (λ i below. omega arith) in
+    meets_bits body [] 35 b name_i (index_var 48 name_i) 1 (omega arith) (λ i. refl) (λ i below. meets_var (inside [] name_i i) 48 name_i (omega arith)) (λ i below. omega arith) in
     let high_met : Meets (tree_events body [] high) (nodes (3 + b * (5 + 3))) =
-        meets_bits body [] 52 b name_i (shifted 65 b name_i) 3 (omega arith) (λ i. refl) (λ i below. meets_shifted (inside [] name_i i) 65 b name_i (omega arith)) (λ i below. omega arith) in
+    meets_bits body [] 52 b name_i (shifted 65 b name_i) 3 (omega arith) (λ i. refl) (λ i below. meets_shifted (inside [] name_i i) 65 b name_i (omega arith)) (λ i below. omega arith) in
     let balance_met : Meets (tree_events body [] balance) (added (nodes 1) (added (nodes 1) (added (nodes (3 + b * (5 + 1))) (added (nodes (3 + b * (5 + 3))) (nodes 0))))) =
-        meets_node (tree_events body [] (num 33 f) ++ (tree_events body [] low ++ (tree_events body [] high ++ []))) (added (nodes 1) (added (nodes (3 + b * (5 + 1))) (added (nodes (3 + b * (5 + 3))) (nodes 0))))
-        (meets_append (tree_events body [] (num 33 f)) (tree_events body [] low ++ (tree_events body [] high ++ [])) (nodes 1) (added (nodes (3 + b * (5 + 1))) (added (nodes (3 + b * (5 + 3))) (nodes 0))) meets_visit
-         (meets_append (tree_events body [] low) (tree_events body [] high ++ []) (nodes (3 + b * (5 + 1))) (added (nodes (3 + b * (5 + 3))) (nodes 0)) low_met
-          (meets_append (tree_events body [] high) [] (nodes (3 + b * (5 + 3))) (nodes 0) high_met meets_none))) in
+    meets_node (tree_events body [] (num 33 f) ++ (tree_events body [] low ++ (tree_events body [] high ++ []))) (added (nodes 1) (added (nodes (3 + b * (5 + 1))) (added (nodes (3 + b * (5 + 3))) (nodes 0))))
+    (meets_append (tree_events body [] (num 33 f)) (tree_events body [] low ++ (tree_events body [] high ++ [])) (nodes 1) (added (nodes (3 + b * (5 + 1))) (added (nodes (3 + b * (5 + 3))) (nodes 0))) meets_visit
+    (meets_append (tree_events body [] low) (tree_events body [] high ++ []) (nodes (3 + b * (5 + 1))) (added (nodes (3 + b * (5 + 3))) (nodes 0)) low_met
+    (meets_append (tree_events body [] high) [] (nodes (3 + b * (5 + 3))) (nodes 0) high_met meets_none))) in
     let number_met : Meets (tree_events body [] number) (nodes (3 + b * (5 + 1))) =
-        meets_bits body [] 72 b name_i (index_var 85 name_i) 1 (omega arith) (λ i. refl) (λ i below. meets_var (inside [] name_i i) 85 name_i (omega arith)) (λ i below. omega arith) in
+    meets_bits body [] 72 b name_i (index_var 85 name_i) 1 (omega arith) (λ i. refl) (λ i below. meets_var (inside [] name_i i) 85 name_i (omega arith)) (λ i below. omega arith) in
     let check_met = meets_check_stmt body [] 32 balance _ balance_met in
     let out_met = meets_out_stmt body [] 71 number _ number_met in
     meets_as (body_events body) _ (sum_tally b)
     (meets_append (stmt_events body [] bits) (stmt_events body [] (check 32 balance) ++ (stmt_events body [] (out 71 number) ++ [])) _ _ bits_met
-     (meets_append (stmt_events body [] (check 32 balance)) (stmt_events body [] (out 71 number) ++ []) _ _ check_met
-      (meets_append (stmt_events body [] (out 71 number)) [] _ (nodes 0) out_met meets_none)))
+    (meets_append (stmt_events body [] (check 32 balance)) (stmt_events body [] (out 71 number) ++ []) _ _ check_met
+    (meets_append (stmt_events body [] (out 71 number)) [] _ (nodes 0) out_met meets_none)))
     (tally-same _ _ (omega arith) (omega arith) (omega arith) (omega arith))
 
 -- ---- circuits that take their words by chunks
@@ -128,9 +128,9 @@ word_outs_met words chunk more at length within few =
     let word = meas (at + 8) (index_var (at + 10) name_i) in
     meets_as (stmt_events body [] (each_word_out at length) ++ []) (added (added (nodes 1) (added (nodes (1 + 1)) (times length (added (added (nodes 1) (added (tally 0 0 0 1) (nodes (1 + (1 + 0))))) (nodes 0))))) (nodes 0)) (tally (3 + length * 3) 0 0 length)
     (meets_append (stmt_events body [] (each_word_out at length)) [] (added (nodes 1) (added (nodes (1 + 1)) (times length (added (added (nodes 1) (added (tally 0 0 0 1) (nodes (1 + (1 + 0))))) (nodes 0))))) (nodes 0)
-     (meets_each body at (at + 3) (at + 5) length name_i (out (at + 7) word) (added (nodes 1) (added (tally 0 0 0 1) (nodes (1 + (1 + 0))))) (omega arith) (λ i below.
-         meets_out_stmt body (inside [] name_i i) (at + 7) word (nodes (1 + (1 + 0))) (meets_meas body (inside [] name_i i) (at + 8) (index_var (at + 10) name_i) 1 (meets_var (inside [] name_i i) (at + 10) name_i (omega arith)) (omega arith))))
-     meets_none)
+    (meets_each body at (at + 3) (at + 5) length name_i (out (at + 7) word) (added (nodes 1) (added (tally 0 0 0 1) (nodes (1 + (1 + 0))))) (omega arith) (λ i below.
+    meets_out_stmt body (inside [] name_i i) (at + 7) word (nodes (1 + (1 + 0))) (meets_meas body (inside [] name_i i) (at + 8) (index_var (at + 10) name_i) 1 (meets_var (inside [] name_i i) (at + 10) name_i (omega arith)) (omega arith))))
+    meets_none)
     (tally-same _ _ (omega arith) (omega arith) (omega arith) (omega arith))
 
 -- a place in a row of a grid
@@ -143,12 +143,12 @@ sum_vec_met length bits chunk few long wide =
     let number = bits_sum 74 name_j bits (in_row 87 name_i bits name_j) in
     meets_as (stmt_events body [] (each_number_out length bits) ++ []) (added (added (nodes 1) (added (nodes (1 + 1)) (times length (added (added (nodes 1) (added (tally 0 0 0 1) (nodes (3 + bits * (5 + 5))))) (nodes 0))))) (nodes 0)) (tally (3 + length * (4 + bits * 10)) 0 0 length)
     (meets_append (stmt_events body [] (each_number_out length bits)) [] (added (nodes 1) (added (nodes (1 + 1)) (times length (added (added (nodes 1) (added (tally 0 0 0 1) (nodes (3 + bits * (5 + 5))))) (nodes 0))))) (nodes 0)
-     (meets_each body 66 69 71 length name_i (out 73 number) (added (nodes 1) (added (tally 0 0 0 1) (nodes (3 + bits * (5 + 5))))) (omega arith) (λ i below.
-         meets_out_stmt body (inside [] name_i i) 73 number (nodes (3 + bits * (5 + 5)))
-         (meets_bits body (inside [] name_i i) 74 bits name_j (in_row 87 name_i bits name_j) 5 (omega arith) (λ j. refl)
-          (λ j least. meets_in_row (inside (inside [] name_i i) name_j j) 87 bits name_i name_j (omega arith) (omega arith) (omega (arith, grid length bits i j below least)))
-          (λ j least. omega (arith, grid length bits i j below least)))))
-     meets_none)
+    (meets_each body 66 69 71 length name_i (out 73 number) (added (nodes 1) (added (tally 0 0 0 1) (nodes (3 + bits * (5 + 5))))) (omega arith) (λ i below.
+    meets_out_stmt body (inside [] name_i i) 73 number (nodes (3 + bits * (5 + 5)))
+    (meets_bits body (inside [] name_i i) 74 bits name_j (in_row 87 name_i bits name_j) 5 (omega arith) (λ j. refl)
+    (λ j least. meets_in_row (inside (inside [] name_i i) name_j j) 87 bits name_i name_j (omega arith) (omega arith) (omega (arith, grid length bits i j below least)))
+    (λ j least. omega (arith, grid length bits i j below least)))))
+    meets_none)
     (tally-same _ _ (omega arith) (omega arith) (omega arith) (omega arith))
 
 histogram_met : (length chunk : ℕ) → length ≤ 65536 → Meets (stmts_events (chunked_program length chunk (histogram_statements length)) [] (statements (histogram_statements length))) (tally (9 + length * 5) 0 1 length)
@@ -157,12 +157,12 @@ histogram_met length chunk long =
     let total = words_sum 67 name_i length in
     let difference = add 67 (items ((false, total) ∷ (true, num 80 1) ∷ [])) in
     let difference_met : Meets (tree_events body [] difference) (added (nodes 1) (added (nodes (3 + length * 2)) (added (nodes 1) (nodes 0)))) =
-        meets_node (tree_events body [] total ++ (tree_events body [] (num 80 1) ++ [])) (added (nodes (3 + length * 2)) (added (nodes 1) (nodes 0)))
-        (meets_append (tree_events body [] total) (tree_events body [] (num 80 1) ++ []) (nodes (3 + length * 2)) (added (nodes 1) (nodes 0)) (meets_words body 67 length (omega arith) (omega arith))
-         (meets_append (tree_events body [] (num 80 1)) [] (nodes 1) (nodes 0) meets_visit meets_none)) in
+    meets_node (tree_events body [] total ++ (tree_events body [] (num 80 1) ++ [])) (added (nodes (3 + length * 2)) (added (nodes 1) (nodes 0)))
+    (meets_append (tree_events body [] total) (tree_events body [] (num 80 1) ++ []) (nodes (3 + length * 2)) (added (nodes 1) (nodes 0)) (meets_words body 67 length (omega arith) (omega arith))
+    (meets_append (tree_events body [] (num 80 1)) [] (nodes 1) (nodes 0) meets_visit meets_none)) in
     meets_as (stmts_events body [] (statements (histogram_statements length))) _ (tally (9 + length * 5) 0 1 length)
     (meets_append (stmt_events body [] (one_check length)) (stmts_events body [] (statements (each_word_out 82 length ∷ []))) _ (tally (3 + length * 3) 0 0 length)
-     (meets_check_stmt body [] 66 difference _ difference_met) (word_outs_met length chunk (histogram_statements length) 82 length (omega arith) long))
+    (meets_check_stmt body [] 66 difference _ difference_met) (word_outs_met length chunk (histogram_statements length) 82 length (omega arith) long))
     (tally-same _ _ (omega arith) (omega arith) (omega arith) (omega arith))
 
 multihot_met : (length b f chunk : ℕ) → length + b ≤ 65536 → Meets (stmts_events (chunked_program (length + b) chunk (multihot_statements length b f)) [] (statements (multihot_statements length b f))) (tally (12 + length * 5 + b * 8) 0 1 length)
@@ -172,15 +172,15 @@ multihot_met length b f chunk long =
     let high = bits_sum 82 name_i b (shifted 95 length name_i) in
     let balance = add 67 (items ((false, num 67 f) ∷ (false, total) ∷ (true, high) ∷ [])) in
     let high_met : Meets (tree_events body [] high) (nodes (3 + b * (5 + 3))) =
-        meets_bits body [] 82 b name_i (shifted 95 length name_i) 3 (omega arith) (λ i. refl) (λ i below. meets_shifted (inside [] name_i i) 95 length name_i (omega arith)) (λ i below. omega arith) in
+    meets_bits body [] 82 b name_i (shifted 95 length name_i) 3 (omega arith) (λ i. refl) (λ i below. meets_shifted (inside [] name_i i) 95 length name_i (omega arith)) (λ i below. omega arith) in
     let balance_met : Meets (tree_events body [] balance) (added (nodes 1) (added (nodes 1) (added (nodes (3 + length * 2)) (added (nodes (3 + b * (5 + 3))) (nodes 0))))) =
-        meets_node (tree_events body [] (num 67 f) ++ (tree_events body [] total ++ (tree_events body [] high ++ []))) (added (nodes 1) (added (nodes (3 + length * 2)) (added (nodes (3 + b * (5 + 3))) (nodes 0))))
-        (meets_append (tree_events body [] (num 67 f)) (tree_events body [] total ++ (tree_events body [] high ++ [])) (nodes 1) (added (nodes (3 + length * 2)) (added (nodes (3 + b * (5 + 3))) (nodes 0))) meets_visit
-         (meets_append (tree_events body [] total) (tree_events body [] high ++ []) (nodes (3 + length * 2)) (added (nodes (3 + b * (5 + 3))) (nodes 0)) (meets_words body 69 length (omega arith) (omega arith))
-          (meets_append (tree_events body [] high) [] (nodes (3 + b * (5 + 3))) (nodes 0) high_met meets_none))) in
+    meets_node (tree_events body [] (num 67 f) ++ (tree_events body [] total ++ (tree_events body [] high ++ []))) (added (nodes 1) (added (nodes (3 + length * 2)) (added (nodes (3 + b * (5 + 3))) (nodes 0))))
+    (meets_append (tree_events body [] (num 67 f)) (tree_events body [] total ++ (tree_events body [] high ++ [])) (nodes 1) (added (nodes (3 + length * 2)) (added (nodes (3 + b * (5 + 3))) (nodes 0))) meets_visit
+    (meets_append (tree_events body [] total) (tree_events body [] high ++ []) (nodes (3 + length * 2)) (added (nodes (3 + b * (5 + 3))) (nodes 0)) (meets_words body 69 length (omega arith) (omega arith))
+    (meets_append (tree_events body [] high) [] (nodes (3 + b * (5 + 3))) (nodes 0) high_met meets_none))) in
     meets_as (stmts_events body [] (statements (multihot_statements length b f))) _ (tally (12 + length * 5 + b * 8) 0 1 length)
     (meets_append (stmt_events body [] (weight_check length b f)) (stmts_events body [] (statements (each_word_out 101 length ∷ []))) _ (tally (3 + length * 3) 0 0 length)
-     (meets_check_stmt body [] 66 balance _ balance_met) (word_outs_met (length + b) chunk (multihot_statements length b f) 101 length (omega arith) (omega arith)))
+    (meets_check_stmt body [] 66 balance _ balance_met) (word_outs_met (length + b) chunk (multihot_statements length b f) 101 length (omega arith) (omega arith)))
     (tally-same _ _ (omega arith) (omega arith) (omega arith) (omega arith))
 
 -- ---- the verdicts

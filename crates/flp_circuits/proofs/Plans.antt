@@ -26,10 +26,10 @@ first_where-least : (n start count log : ℕ) → n ≤ 2 ^ log → start ≤ lo
 first_where-least n start zero log h k = omega arith
 first_where-least n start (suc count) log h k =
     cond_both (leb n (2 ^ start)) (Some start) (first_where (λ l. leb n (2 ^ l)) (suc start) count) (λ o. unwrap_or o 0 ≤ log) (λ yes. k) (λ no.
-        let above : 2 ^ start < n = leb-false n (2 ^ start) no in
-        ⊎_elim (λ (lt : start < log). first_where-least n (suc start) count log h lt) (λ (ge : log ≤ start).
-            let same : log ≡ start = omega arith in
-            let power : 2 ^ log ≡ 2 ^ start = ap (λ (e : ℕ). 2 ^ e) same in absurd (omega arith)) (cases_lt start log))
+    let above : 2 ^ start < n = leb-false n (2 ^ start) no in
+    ⊎_elim (λ (lt : start < log). first_where-least n (suc start) count log h lt) (λ (ge : log ≤ start).
+    let same : log ≡ start = omega arith in
+    let power : 2 ^ log ≡ 2 ^ start = ap (λ (e : ℕ). 2 ^ e) same in absurd (omega arith)) (cases_lt start log))
 
 ceil_log-least : (n log : ℕ) → n ≤ 2 ^ log → ceil_log n ≤ log
 unfolding ceil_log
@@ -40,7 +40,7 @@ domain-small : (calls log : ℕ) → 1 ≤ calls → log ≡ ceil_log (calls + 1
 domain-small calls zero some e = omega arith
 domain-small calls (suc log) some e =
     ⊎_elim (λ (lt : 2 ^ log < calls + 1). let doubled : 2 ^ suc log ≡ 2 * 2 ^ log = two_pow log in omega arith) (λ (ge : calls + 1 ≤ 2 ^ log).
-        let least : ceil_log (calls + 1) ≤ log = ceil_log-least (calls + 1) log ge in absurd (omega arith)) (cases_lt (2 ^ log) (calls + 1))
+    let least : ceil_log (calls + 1) ≤ log = ceil_log-least (calls + 1) log ge in absurd (omega arith)) (cases_lt (2 ^ log) (calls + 1))
 
 -- the wires of a gadget with this arity and as many calls
 wires-small : (made calls : ℕ) → made ≡ calls → 1 ≤ calls → 2 ^ ceil_log (made + 1) ≤ 2 * calls
@@ -76,7 +76,7 @@ range-terms : (words calls chunk : ℕ) → statement_terms words [] (check 13 (
 range-terms words calls chunk =
     add-le-add (bounded (λ c. 1) 1 calls (λ c. omega arith))
     (bounded (λ c. sum_by (λ j. terms_of_arguments words (inside (inside [] name_c c) name_j j) (arguments (chunk_args 30 chunk))) (turns 0 chunk) + 0) (chunk * 3) calls (λ c.
-        omega (arith, bounded (λ j. terms_of_arguments words (inside (inside [] name_c c) name_j j) (arguments (chunk_args 30 chunk))) 3 chunk (chunk-terms words chunk c))))
+    omega (arith, bounded (λ j. terms_of_arguments words (inside (inside [] name_c c) name_j j) (arguments (chunk_args 30 chunk))) 3 chunk (chunk-terms words chunk c))))
 
 bits-form : (words n : ℕ) (scope : Scope) (at : ℕ) (name : List ℕ) (place : Index) → form_terms words scope (bits_sum at name n place) ≤ n * 1
 bits-form words n scope at name place = bounded (λ i. 1) 1 n (λ i. omega arith)
@@ -107,7 +107,7 @@ sum-terms b f =
 sum_vec-terms : (words length bits chunk calls : ℕ) → terms_of_statements words [] (statements (sum_vec_statements length bits)) ≤ length * (bits * 1 + bits * 0) + 0
 sum_vec-terms words length bits chunk calls =
     add-le-add (bounded (λ i. form_terms words (inside [] name_i i) (bits_sum 74 name_j bits (in_row 87 name_i bits name_j)) + input_terms words (inside [] name_i i) (bits_sum 74 name_j bits (in_row 87 name_i bits name_j)) + 0) (bits * 1 + bits * 0) length (λ i.
-        omega (arith, bits-form words bits (inside [] name_i i) 74 name_j (in_row 87 name_i bits name_j), bits-input words bits (inside [] name_i i) 74 name_j (in_row 87 name_i bits name_j))))
+    omega (arith, bits-form words bits (inside [] name_i i) 74 name_j (in_row 87 name_i bits name_j), bits-input words bits (inside [] name_i i) 74 name_j (in_row 87 name_i bits name_j))))
     (let none : 0 ≤ 0 = omega arith in none)
 
 histogram-terms : (words length : ℕ) → terms_of_statements words [] (statements (histogram_statements length)) ≤ length * 2 + 1

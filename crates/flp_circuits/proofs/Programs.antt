@@ -70,16 +70,16 @@ gives_sum_circuit b f x joint =
     let number = bits_sum 72 name_i b (index_var 85 name_i) in
     gives_stmt kind body x joint [] bits (statements (check 32 balance ∷ out 71 number ∷ [])) (checks_only (map (bit_check x) (numbers_from 0 (2 * b)))) (record { checks = minus (f + number_at x 0 b) (number_at x b b) % modulus ∷ []; outs = number_at x 0 b % modulus ∷ [] })
     (gives_checks (λ t. performed (statements_of G D (inside [] name_i t) (statements (check 22 (call 23 name_g (arguments (one (meas 25 (index_var 27 name_i)) ∷ []))) ∷ [])))) (bit_check x) (2 * b) (λ t.
-        record { at = λ made. ap (λ (v : ℕ). checks_only (v ∷ [])) (poly_bit (word x t)) }))
+    record { at = λ made. ap (λ (v : ℕ). checks_only (v ∷ [])) (poly_bit (word x t)) }))
     (gives_stmt kind body x joint [] (check 32 balance) (statements (out 71 number ∷ [])) (checks_only (minus (f + number_at x 0 b) (number_at x b b) % modulus ∷ [])) (outs_only (number_at x 0 b % modulus ∷ []))
-     (gives_check kind body x joint [] 32 balance (minus (f + number_at x 0 b) (number_at x b b))
-      (gives_balance kind body x joint 33 (num 33 f) low high f (number_at x 0 b) (number_at x b b) (gives_plain f)
-       (gives_bits kind body x joint [] 35 b name_i (index_var 48 name_i) (λ t. 0 + t) (λ t. refl) (λ t. omega arith))
-       (gives_bits kind body x joint [] 52 b name_i (shifted 65 b name_i) (λ t. b + t) (λ t. refl) (λ t. omega arith))))
-     (gives_stmt kind body x joint [] (out 71 number) no_stmts (outs_only (number_at x 0 b % modulus ∷ [])) no_results
-      (gives_out kind body x joint [] 71 number (number_at x 0 b)
-       (gives_bits kind body x joint [] 72 b name_i (index_var 85 name_i) (λ t. 0 + t) (λ t. refl) (λ t. omega arith)))
-      (gives_nil join_results no_results)))
+    (gives_check kind body x joint [] 32 balance (minus (f + number_at x 0 b) (number_at x b b))
+    (gives_balance kind body x joint 33 (num 33 f) low high f (number_at x 0 b) (number_at x b b) (gives_plain f)
+    (gives_bits kind body x joint [] 35 b name_i (index_var 48 name_i) (λ t. 0 + t) (λ t. refl) (λ t. omega arith))
+    (gives_bits kind body x joint [] 52 b name_i (shifted 65 b name_i) (λ t. b + t) (λ t. refl) (λ t. omega arith))))
+    (gives_stmt kind body x joint [] (out 71 number) no_stmts (outs_only (number_at x 0 b % modulus ∷ [])) no_results
+    (gives_out kind body x joint [] 71 number (number_at x 0 b)
+    (gives_bits kind body x joint [] 72 b name_i (index_var 85 name_i) (λ t. 0 + t) (λ t. refl) (λ t. omega arith)))
+    (gives_nil join_results no_results)))
 
 -- ---- circuits that take their words by chunks
 
@@ -110,7 +110,7 @@ gives_sum_vec words length bits chunk x joint =
     let number = bits_sum 74 name_j bits (in_row 87 name_i bits name_j) in
     gives_as _ _ _ (gives_stmt kind body x joint [] (each_out 66 name_i length number) no_stmts (outs_only (map (λ i. sum_below bits (λ j. 2 ^ j * word x (i * bits + j)) % modulus) (numbers_from 0 length))) no_results
     (gives_each_out kind body x joint 66 length name_i number (λ i. sum_below bits (λ j. 2 ^ j * word x (i * bits + j))) (λ i.
-        gives_bits kind body x joint (inside [] name_i i) 74 bits name_j (in_row 87 name_i bits name_j) (λ j. i * bits + j) (λ j. refl) (λ j. omega arith)))
+    gives_bits kind body x joint (inside [] name_i i) 74 bits name_j (in_row 87 name_i bits name_j) (λ j. i * bits + j) (λ j. refl) (λ j. omega arith)))
     (gives_nil join_results no_results)) (ap outs_only (append-nil _))
 
 pub gives_word_outs : (words chunk : ℕ) (more : List Statement) (at length : ℕ) (x joint : List ℕ) → Gives (performed (statements_of (gadget_g (psum_kind chunk mul_kind)) (direct (chunked_program words chunk more) x joint) [] (statements (each_word_out at length ∷ [])))) (outs_only (word_outs length x))
@@ -129,7 +129,7 @@ gives_histogram length chunk x joint =
     let difference = add 67 (items ((false, words_sum 67 name_i length) ∷ (true, num 80 1) ∷ [])) in
     gives_stmt kind body x joint [] (check 66 difference) (statements (each_word_out 82 length ∷ [])) (checks_only (minus (sum_below length (word x)) 1 % modulus ∷ [])) (outs_only (word_outs length x))
     (gives_check kind body x joint [] 66 difference (minus (sum_below length (word x)) 1)
-     (gives_difference kind body x joint 67 (words_sum 67 name_i length) (num 80 1) (sum_below length (word x)) 1 (gives_words kind body x joint 67 length) (gives_plain 1)))
+    (gives_difference kind body x joint 67 (words_sum 67 name_i length) (num 80 1) (sum_below length (word x)) 1 (gives_words kind body x joint 67 length) (gives_plain 1)))
     (gives_word_outs length chunk (histogram_statements length) 82 length x joint)
 
 pub gives_multihot : (length b f chunk : ℕ) (x joint : List ℕ) → Gives (performed (statements_of (gadget_g (psum_kind chunk mul_kind)) (direct (chunked_program (length + b) chunk (multihot_statements length b f)) x joint) [] (statements (multihot_statements length b f)))) (record { checks = minus (f + sum_below length (word x)) (number_at x length b) % modulus ∷ []; outs = word_outs length x })
@@ -140,8 +140,8 @@ gives_multihot length b f chunk x joint =
     let balance = add 67 (items ((false, num 67 f) ∷ (false, words_sum 69 name_i length) ∷ (true, high) ∷ [])) in
     gives_stmt kind body x joint [] (check 66 balance) (statements (each_word_out 101 length ∷ [])) (checks_only (minus (f + sum_below length (word x)) (number_at x length b) % modulus ∷ [])) (outs_only (word_outs length x))
     (gives_check kind body x joint [] 66 balance (minus (f + sum_below length (word x)) (number_at x length b))
-     (gives_balance kind body x joint 67 (num 67 f) (words_sum 69 name_i length) high f (sum_below length (word x)) (number_at x length b) (gives_plain f) (gives_words kind body x joint 69 length)
-      (gives_bits kind body x joint [] 82 b name_i (shifted 95 length name_i) (λ t. length + t) (λ t. refl) (λ t. omega arith))))
+    (gives_balance kind body x joint 67 (num 67 f) (words_sum 69 name_i length) high f (sum_below length (word x)) (number_at x length b) (gives_plain f) (gives_words kind body x joint 69 length)
+    (gives_bits kind body x joint [] 82 b name_i (shifted 95 length name_i) (λ t. length + t) (λ t. refl) (λ t. omega arith))))
     (gives_word_outs (length + b) chunk (multihot_statements length b f) 101 length x joint)
 
 -- ---- the checks, and the outs, of each circuit

@@ -87,14 +87,14 @@ module _ (body : Program) where
       let word = meas (at + 11) place in
       meets_as (tree_events body scope (bits_sum at name n place)) (added (nodes 1) (added (nodes (1 + 1)) (times n (nodes (1 + ((1 + (1 + 1)) + ((1 + (m + 0)) + 0))))))) (nodes (3 + n * (5 + m)))
       (meets_sum scope at n name (mul (at + 7) (trees (two ∷ word ∷ []))) (nodes (1 + ((1 + (1 + 1)) + ((1 + (m + 0)) + 0)))) h (λ i below.
-          let there = inside scope name i in
-          let small : bound_value there name ≤ 4294967295 = rw named (omega arith) in
-          let power : Meets (tree_events body there two) (nodes (1 + (1 + 1))) =
-              meets_node (tree_events body there (num (at + 7) 2) ++ index_events there (index_var (at + 9) name)) (nodes (1 + 1))
-              (meets_append (tree_events body there (num (at + 7) 2)) (index_events there (index_var (at + 9) name)) (nodes 1) (nodes 1) meets_visit (meets_var there (at + 9) name small)) in
-          let last : Meets (tree_events body there word ++ []) (nodes ((1 + (m + 0)) + 0)) = meets_append (tree_events body there word) [] (nodes (1 + (m + 0))) (nodes 0) (meets_meas there (at + 11) place m (placed i below) (within i below)) meets_none in
-          meets_node (tree_events body there two ++ (tree_events body there word ++ [])) (nodes ((1 + (1 + 1)) + ((1 + (m + 0)) + 0)))
-          (meets_append (tree_events body there two) (tree_events body there word ++ []) (nodes (1 + (1 + 1))) (nodes ((1 + (m + 0)) + 0)) power last)))
+      let there = inside scope name i in
+      let small : bound_value there name ≤ 4294967295 = rw named (omega arith) in
+      let power : Meets (tree_events body there two) (nodes (1 + (1 + 1))) =
+      meets_node (tree_events body there (num (at + 7) 2) ++ index_events there (index_var (at + 9) name)) (nodes (1 + 1))
+      (meets_append (tree_events body there (num (at + 7) 2)) (index_events there (index_var (at + 9) name)) (nodes 1) (nodes 1) meets_visit (meets_var there (at + 9) name small)) in
+      let last : Meets (tree_events body there word ++ []) (nodes ((1 + (m + 0)) + 0)) = meets_append (tree_events body there word) [] (nodes (1 + (m + 0))) (nodes 0) (meets_meas there (at + 11) place m (placed i below) (within i below)) meets_none in
+      meets_node (tree_events body there two ++ (tree_events body there word ++ [])) (nodes ((1 + (1 + 1)) + ((1 + (m + 0)) + 0)))
+      (meets_append (tree_events body there two) (tree_events body there word ++ []) (nodes (1 + (1 + 1))) (nodes ((1 + (m + 0)) + 0)) power last)))
       (tally-same _ _ (omega arith) (omega arith) (omega arith) (omega arith))
 
   -- `sum i in 0..n ( meas[i] )`
@@ -102,7 +102,7 @@ module _ (body : Program) where
   meets_words at n h small =
       meets_as (tree_events body [] (words_sum at name_i n)) (added (nodes 1) (added (nodes (1 + 1)) (times n (nodes (1 + (1 + 0)))))) (nodes (3 + n * 2))
       (meets_sum [] at n name_i (meas (at + 7) (index_var (at + 9) name_i)) (nodes (1 + (1 + 0))) small (λ i below.
-          meets_meas (inside [] name_i i) (at + 7) (index_var (at + 9) name_i) 1 (meets_var (inside [] name_i i) (at + 9) name_i (omega arith)) (omega arith)))
+      meets_meas (inside [] name_i i) (at + 7) (index_var (at + 9) name_i) 1 (meets_var (inside [] name_i i) (at + 9) name_i (omega arith)) (omega arith)))
       (tally-same _ _ (omega arith) (omega arith) (omega arith) (omega arith))
 
   -- `meas?[c * chunk + j]` at call c
@@ -118,9 +118,9 @@ module _ (body : Program) where
       let exponent = index_sum_of (at + 6) (index_var (at + 6) name_j) (idx (at + 8) 1) in
       meets_node (tree_events body there base ++ index_events there exponent) (nodes ((1 + (1 + 0)) + 3))
       (meets_append (tree_events body there base) (index_events there exponent) (nodes (1 + (1 + 0))) (nodes 3)
-       (meets_node (index_events there (index_var (at + 2) name_c) ++ in_words at c body.joint) (nodes (1 + 0))
-        (meets_append (index_events there (index_var (at + 2) name_c)) (in_words at c body.joint) (nodes 1) (nodes 0) (meets_var there (at + 2) name_c low) (meets_in_words at c body.joint within)))
-       (meets_index_sum there (at + 6) (index_var (at + 6) name_j) (idx (at + 8) 1) 1 1 (meets_var there (at + 6) name_j (omega arith)) (meets_number there (at + 8) 1 (omega arith)) h))
+      (meets_node (index_events there (index_var (at + 2) name_c) ++ in_words at c body.joint) (nodes (1 + 0))
+      (meets_append (index_events there (index_var (at + 2) name_c)) (in_words at c body.joint) (nodes 1) (nodes 0) (meets_var there (at + 2) name_c low) (meets_in_words at c body.joint within)))
+      (meets_index_sum there (at + 6) (index_var (at + 6) name_j) (idx (at + 8) 1) 1 1 (meets_var there (at + 6) name_j (omega arith)) (meets_number there (at + 8) 1 (omega arith)) h))
 
   -- both arguments at one turn: 21 nodes
   pub meets_chunk_args : (at chunk c j : ℕ) → c < body.joint → c ≤ 4294967295 → chunk ≤ 4294967295 → j + 1 ≤ 4294967295 → c * chunk + j ≤ 4294967295 → Meets (args_events body (inside (inside [] name_c c) name_j j) (arguments (chunk_args at chunk))) (nodes 21)
@@ -131,13 +131,13 @@ module _ (body : Program) where
       let again = word_of_chunk (at + 21) chunk in
       let minus_one = num (at + 31) 1 in
       let weighted : Meets (tree_events body there (mul at (trees (power ∷ word ∷ [])))) (nodes (1 + ((1 + ((1 + (1 + 0)) + 3)) + ((1 + 5) + 0)))) =
-          meets_node (tree_events body there power ++ (tree_events body there word ++ [])) (nodes ((1 + ((1 + (1 + 0)) + 3)) + ((1 + 5) + 0)))
-          (meets_append (tree_events body there power) (tree_events body there word ++ []) (nodes (1 + ((1 + (1 + 0)) + 3))) (nodes ((1 + 5) + 0)) (meets_joint_power at c j within low short)
-           (meets_append (tree_events body there word) [] (nodes (1 + 5)) (nodes 0) (meets_word_of_chunk (at + 11) chunk c j low width h) meets_none)) in
+      meets_node (tree_events body there power ++ (tree_events body there word ++ [])) (nodes ((1 + ((1 + (1 + 0)) + 3)) + ((1 + 5) + 0)))
+      (meets_append (tree_events body there power) (tree_events body there word ++ []) (nodes (1 + ((1 + (1 + 0)) + 3))) (nodes ((1 + 5) + 0)) (meets_joint_power at c j within low short)
+      (meets_append (tree_events body there word) [] (nodes (1 + 5)) (nodes 0) (meets_word_of_chunk (at + 11) chunk c j low width h) meets_none)) in
       let less_one : Meets (tree_events body there (add (at + 21) (items ((false, again) ∷ (true, minus_one) ∷ [])))) (nodes (1 + ((1 + 5) + (1 + 0)))) =
-          meets_node (tree_events body there again ++ (tree_events body there minus_one ++ [])) (nodes ((1 + 5) + (1 + 0)))
-          (meets_append (tree_events body there again) (tree_events body there minus_one ++ []) (nodes (1 + 5)) (nodes (1 + 0)) (meets_word_of_chunk (at + 21) chunk c j low width h)
-           (meets_append (tree_events body there minus_one) [] (nodes 1) (nodes 0) meets_visit meets_none)) in
+      meets_node (tree_events body there again ++ (tree_events body there minus_one ++ [])) (nodes ((1 + 5) + (1 + 0)))
+      (meets_append (tree_events body there again) (tree_events body there minus_one ++ []) (nodes (1 + 5)) (nodes (1 + 0)) (meets_word_of_chunk (at + 21) chunk c j low width h)
+      (meets_append (tree_events body there minus_one) [] (nodes 1) (nodes 0) meets_visit meets_none)) in
       meets_append (tree_events body there (mul at (trees (power ∷ word ∷ [])))) (tree_events body there (add (at + 21) (items ((false, again) ∷ (true, minus_one) ∷ []))) ++ []) (nodes 13) (nodes 8) weighted
       (meets_append (tree_events body there (add (at + 21) (items ((false, again) ∷ (true, minus_one) ∷ [])))) [] (nodes 8) (nodes 0) less_one meets_none)
 
@@ -157,8 +157,8 @@ module _ (body : Program) where
       let loop = flat_map (λ value. stmts_events body (inside [] name value) (statements (inner ∷ []))) (turns 0 n) in
       meets_node (range_events [] (idx k 0) (idx l n) ++ loop) (added (nodes (1 + 1)) (times n (added t (nodes 0))))
       (meets_append (range_events [] (idx k 0) (idx l n)) loop (nodes (1 + 1)) (times n (added t (nodes 0))) (meets_bounds [] k l n h)
-       (meets_loop (λ value. stmts_events body (inside [] name value) (statements (inner ∷ []))) (added t (nodes 0)) n (λ i below.
-           meets_append (stmt_events body (inside [] name i) inner) [] t (nodes 0) (turn_met i below) meets_none)))
+      (meets_loop (λ value. stmts_events body (inside [] name value) (statements (inner ∷ []))) (added t (nodes 0)) n (λ i below.
+      meets_append (stmt_events body (inside [] name i) inner) [] t (nodes 0) (turn_met i below) meets_none)))
 
 -- ---- the range check, in a body of its own kind
 
@@ -172,21 +172,21 @@ meets_range words chunk more calls few short within =
     let body = chunked_program words chunk more in
     meets_as (tree_events body [] (range_check 14 calls chunk)) (added (nodes 1) (added (nodes (1 + 1)) (times calls (added (nodes 1) (added (added (nodes (1 + ((1 + 1) + chunk * 21))) (nodes 0)) (tally 0 1 0 0)))))) (tally (3 + calls * (4 + chunk * 21)) calls 0 0)
     (meets_sum body [] 14 calls name_c (chunk_call (14 + 7) chunk) (added (nodes 1) (added (added (nodes (1 + ((1 + 1) + chunk * 21))) (nodes 0)) (tally 0 1 0 0))) (omega arith) (λ c below.
-        let there = inside [] name_c c in
-        let inner = arguments (chunk_args (14 + 7 + 9) chunk) in
-        let each_one = each_arg (14 + 7 + 2) name_j (idx (14 + 7 + 5) 0) (idx (14 + 7 + 7) chunk) inner in
-        let loop = flat_map (λ j. args_events body (inside there name_j j) inner) (turns 0 chunk) in
-        let turns_met : Meets loop (times chunk (nodes 21)) = meets_loop (λ j. args_events body (inside there name_j j) inner) (nodes 21) chunk (λ j least.
-            let width : c * chunk ≤ 4095 * 512 = mul-le-mul {n₁ = c} {m₁ = chunk} {n₂ = 4095} {m₂ = 512} (omega arith) short in
-            meets_chunk_args body (14 + 7 + 9) chunk c j (omega arith) (omega arith) (omega arith) (omega arith) (omega arith)) in
-        let loop_met : Meets loop (nodes (chunk * 21)) = meets_as loop (times chunk (nodes 21)) (nodes (chunk * 21)) turns_met (tally-same _ _ (omega arith) (omega arith) (omega arith) (omega arith)) in
-        let arg_met : Meets (arg_events body there each_one) (nodes (1 + ((1 + 1) + chunk * 21))) =
-            meets_node (range_events there (idx (14 + 7 + 5) 0) (idx (14 + 7 + 7) chunk) ++ loop) (nodes ((1 + 1) + chunk * 21))
-            (meets_append (range_events there (idx (14 + 7 + 5) 0) (idx (14 + 7 + 7) chunk)) loop (nodes (1 + 1)) (nodes (chunk * 21)) (meets_bounds there (14 + 7 + 5) (14 + 7 + 7) chunk (omega arith)) loop_met) in
-        let args_met : Meets (args_events body there (arguments (each_one ∷ []))) (added (nodes (1 + ((1 + 1) + chunk * 21))) (nodes 0)) = meets_append (arg_events body there each_one) [] (nodes (1 + ((1 + 1) + chunk * 21))) (nodes 0) arg_met meets_none in
-        let fits : call_events body.gadgets (14 + 7) (Some 0) (args_count there (arguments (each_one ∷ []))) ≡ gadget_call 0 ∷ [] =
-            ap (λ (b : Bool). cond b (gadget_call 0 ∷ []) (bad_arity (14 + 7) ∷ [])) (eq-eqb (chunk * 2) (args_count there (arguments (each_one ∷ []))) (sym (chunk_arity (14 + 7) chunk c))) in
-        let called : Meets (call_events body.gadgets (14 + 7) (Some 0) (args_count there (arguments (each_one ∷ [])))) (tally 0 1 0 0) = meets_same (gadget_call 0 ∷ []) _ (tally 0 1 0 0) meets_call (sym fits) in
-        meets_node (args_events body there (arguments (each_one ∷ [])) ++ call_events body.gadgets (14 + 7) (Some 0) (args_count there (arguments (each_one ∷ [])))) (added (added (nodes (1 + ((1 + 1) + chunk * 21))) (nodes 0)) (tally 0 1 0 0))
-        (meets_append (args_events body there (arguments (each_one ∷ []))) (call_events body.gadgets (14 + 7) (Some 0) (args_count there (arguments (each_one ∷ [])))) (added (nodes (1 + ((1 + 1) + chunk * 21))) (nodes 0)) (tally 0 1 0 0) args_met called)))
+    let there = inside [] name_c c in
+    let inner = arguments (chunk_args (14 + 7 + 9) chunk) in
+    let each_one = each_arg (14 + 7 + 2) name_j (idx (14 + 7 + 5) 0) (idx (14 + 7 + 7) chunk) inner in
+    let loop = flat_map (λ j. args_events body (inside there name_j j) inner) (turns 0 chunk) in
+    let turns_met : Meets loop (times chunk (nodes 21)) = meets_loop (λ j. args_events body (inside there name_j j) inner) (nodes 21) chunk (λ j least.
+    let width : c * chunk ≤ 4095 * 512 = mul-le-mul {n₁ = c} {m₁ = chunk} {n₂ = 4095} {m₂ = 512} (omega arith) short in
+    meets_chunk_args body (14 + 7 + 9) chunk c j (omega arith) (omega arith) (omega arith) (omega arith) (omega arith)) in
+    let loop_met : Meets loop (nodes (chunk * 21)) = meets_as loop (times chunk (nodes 21)) (nodes (chunk * 21)) turns_met (tally-same _ _ (omega arith) (omega arith) (omega arith) (omega arith)) in
+    let arg_met : Meets (arg_events body there each_one) (nodes (1 + ((1 + 1) + chunk * 21))) =
+    meets_node (range_events there (idx (14 + 7 + 5) 0) (idx (14 + 7 + 7) chunk) ++ loop) (nodes ((1 + 1) + chunk * 21))
+    (meets_append (range_events there (idx (14 + 7 + 5) 0) (idx (14 + 7 + 7) chunk)) loop (nodes (1 + 1)) (nodes (chunk * 21)) (meets_bounds there (14 + 7 + 5) (14 + 7 + 7) chunk (omega arith)) loop_met) in
+    let args_met : Meets (args_events body there (arguments (each_one ∷ []))) (added (nodes (1 + ((1 + 1) + chunk * 21))) (nodes 0)) = meets_append (arg_events body there each_one) [] (nodes (1 + ((1 + 1) + chunk * 21))) (nodes 0) arg_met meets_none in
+    let fits : call_events body.gadgets (14 + 7) (Some 0) (args_count there (arguments (each_one ∷ []))) ≡ gadget_call 0 ∷ [] =
+    ap (λ (b : Bool). cond b (gadget_call 0 ∷ []) (bad_arity (14 + 7) ∷ [])) (eq-eqb (chunk * 2) (args_count there (arguments (each_one ∷ []))) (sym (chunk_arity (14 + 7) chunk c))) in
+    let called : Meets (call_events body.gadgets (14 + 7) (Some 0) (args_count there (arguments (each_one ∷ [])))) (tally 0 1 0 0) = meets_same (gadget_call 0 ∷ []) _ (tally 0 1 0 0) meets_call (sym fits) in
+    meets_node (args_events body there (arguments (each_one ∷ [])) ++ call_events body.gadgets (14 + 7) (Some 0) (args_count there (arguments (each_one ∷ [])))) (added (added (nodes (1 + ((1 + 1) + chunk * 21))) (nodes 0)) (tally 0 1 0 0))
+    (meets_append (args_events body there (arguments (each_one ∷ []))) (call_events body.gadgets (14 + 7) (Some 0) (args_count there (arguments (each_one ∷ [])))) (added (nodes (1 + ((1 + 1) + chunk * 21))) (nodes 0)) (tally 0 1 0 0) args_met called)))
     (tally-same _ _ (omega arith) (omega arith) (omega arith) (omega arith))

@@ -65,11 +65,18 @@ count-well =
     (tt, (lit< tt, name_g-is, tt, tt), tt, ((lit< tt, (lit< tt, tt, ((lit< tt, name_g-is, tt, ((lit< tt, lit< tt), ((lit< tt, lit< tt), tt))), ((lit< tt, lit< tt), tt)))), ((lit< tt, (lit< tt, lit< tt)), tt)))
 
 sum-well : (b f : ℕ) → ProgramIsWell (sum_program b f)
-sum-well b f =
-    (tt, (lit< tt, name_g-is, tt, tt), tt,
-     ((lit< tt, name_i-is, lit< tt, lit< tt, tt, ((lit< tt, (lit< tt, name_g-is, tt, ((lit< tt, (lit< tt, name_i-is)), tt))), tt)),
-      ((lit< tt, balance-well 33 f (bits_sum 35 name_i b (index_var 48 name_i)) (bits_sum 52 name_i b (shifted 65 b name_i)) (lit< tt) (bits_sum-well 35 b name_i (index_var 48 name_i) (lit< tt) name_i-is (lit< tt, name_i-is)) (bits_sum-well 52 b name_i (shifted 65 b name_i) (lit< tt) name_i-is (shifted-well 65 b name_i (lit< tt) name_i-is))),
-       ((lit< tt, bits_sum-well 72 b name_i (index_var 85 name_i) (lit< tt) name_i-is (lit< tt, name_i-is)), tt))))
+sum-well b f = (
+  tt,
+  (lit< tt, name_g-is, tt, tt),
+  tt,
+  (
+    (lit< tt, name_i-is, lit< tt, lit< tt, tt, ((lit< tt, (lit< tt, name_g-is, tt, ((lit< tt, (lit< tt, name_i-is)), tt))), tt)),
+    (
+      (lit< tt, balance-well 33 f (bits_sum 35 name_i b (index_var 48 name_i)) (bits_sum 52 name_i b (shifted 65 b name_i)) (lit< tt) (bits_sum-well 35 b name_i (index_var 48 name_i) (lit< tt) name_i-is (lit< tt, name_i-is)) (bits_sum-well 52 b name_i (shifted 65 b name_i) (lit< tt) name_i-is (shifted-well 65 b name_i (lit< tt) name_i-is))),
+      ((lit< tt, bits_sum-well 72 b name_i (index_var 85 name_i) (lit< tt) name_i-is (lit< tt, name_i-is)), tt),
+    ),
+  ),
+)
 
 chunked-well : (words chunk : ℕ) (more : List Statement) → StatementsAreWell (statements more) → ProgramIsWell (chunked_program words chunk more)
 chunked-well words chunk more well = (tt, (lit< tt, name_g-is, tt, tt), tt, ((lit< tt, range_check-well (quotient_up words chunk) chunk), well))

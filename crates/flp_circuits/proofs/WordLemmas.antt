@@ -101,7 +101,7 @@ number-bits_of (suc count) n h =
     let half : n / 2 < 2 ^ count = (let d : n < 2 * 2 ^ count = rw two_pow at h in omega arith) in
     let rest : sum_below count (λ i. 2 ^ i * word (bits_of count (n / 2)) i) ≡ n / 2 = number-bits_of count (n / 2) half in
     let shifted : sum_below count (λ i. 2 ^ suc i * word (bits_of count (n / 2)) i) ≡ sum_below count (λ i. 2 * (2 ^ i * word (bits_of count (n / 2)) i)) =
-        sum_by-on (λ i. 2 ^ suc i * word (bits_of count (n / 2)) i) (λ i. 2 * (2 ^ i * word (bits_of count (n / 2)) i)) 0 count (λ i low high. ap (λ (k : ℕ). k * word (bits_of count (n / 2)) i) (two_pow i) ∙ mul_assoc 2 (2 ^ i) (word (bits_of count (n / 2)) i)) in
+    sum_by-on (λ i. 2 ^ suc i * word (bits_of count (n / 2)) i) (λ i. 2 * (2 ^ i * word (bits_of count (n / 2)) i)) 0 count (λ i low high. ap (λ (k : ℕ). k * word (bits_of count (n / 2)) i) (two_pow i) ∙ mul_assoc 2 (2 ^ i) (word (bits_of count (n / 2)) i)) in
     let doubled : sum_below count (λ i. 2 * (2 ^ i * word (bits_of count (n / 2)) i)) ≡ 2 * sum_below count (λ i. 2 ^ i * word (bits_of count (n / 2)) i) = sum_by-double (λ i. 2 ^ i * word (bits_of count (n / 2)) i) (numbers_from 0 count) in
     let first : sum_below (suc count) (λ i. 2 ^ i * word (bits_of (suc count) n) i) ≡ 1 * (n % 2) + sum_below count (λ i. 2 ^ suc i * word (bits_of count (n / 2)) i) = sum_below-suc (λ i. 2 ^ i * word (bits_of (suc count) n) i) count in
     first ∙ ap (λ (k : ℕ). 1 * (n % 2) + k) (shifted ∙ doubled ∙ ap (λ (k : ℕ). 2 * k) rest) ∙ (let whole : 1 * (n % 2) + 2 * (n / 2) ≡ n = omega arith in whole)
@@ -110,13 +110,13 @@ number-bits_of (suc count) n h =
 pub number_at-front : (count n : ℕ) (ys : List ℕ) → n < 2 ^ count → number_at (bits_of count n ++ ys) 0 count ≡ n
 number_at-front count n ys h =
     sum_by-on (λ i. 2 ^ i * word (bits_of count n ++ ys) (0 + i)) (λ i. 2 ^ i * word (bits_of count n) i) 0 count (λ i low high.
-        let here : 0 + i ≡ i = omega arith in
-        let long = length-bits_of count n in
-        ap (λ (k : ℕ). 2 ^ i * word (bits_of count n ++ ys) k) here ∙ ap (λ (w : ℕ). 2 ^ i * w) (word-left (bits_of count n) ys i (omega arith)))
+    let here : 0 + i ≡ i = omega arith in
+    let long = length-bits_of count n in
+    ap (λ (k : ℕ). 2 ^ i * word (bits_of count n ++ ys) k) here ∙ ap (λ (w : ℕ). 2 ^ i * w) (word-left (bits_of count n) ys i (omega arith)))
     ∙ number-bits_of count n h
 
 pub number_at-behind : (xs : List ℕ) (start count n : ℕ) → length xs ≡ start → n < 2 ^ count → number_at (xs ++ bits_of count n) start count ≡ n
 number_at-behind xs start count n long h =
     sum_by-on (λ i. 2 ^ i * word (xs ++ bits_of count n) (start + i)) (λ i. 2 ^ i * word (bits_of count n) i) 0 count (λ i low high.
-        ap (λ (w : ℕ). 2 ^ i * w) (word-right xs (bits_of count n) start i long))
+    ap (λ (w : ℕ). 2 ^ i * w) (word-right xs (bits_of count n) start i long))
     ∙ number-bits_of count n h

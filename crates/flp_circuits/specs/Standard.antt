@@ -101,12 +101,14 @@ bit_coefs = record { minus = false; size = 0 } ∷ record { minus = true; size =
 -- out meas[0];
 abbrev pub count_program : Program
 count_program = record {
-  meas = 1; joint = 0; gadgets = gadget_g mul_kind;
+  meas = 1;
+  joint = 0;
+  gadgets = gadget_g mul_kind;
   stmts = statements (
-    check 11 (add 12 (items (
-        (false, call 12 name_g (arguments (one (meas 14 (idx 16 0)) ∷ one (meas 19 (idx 21 0)) ∷ [])))
-        ∷ (true, meas 25 (idx 27 0)) ∷ [])))
-    ∷ out 30 (meas 31 (idx 33 0)) ∷ []);
+      check 11 (add 12 (items (
+      (false, call 12 name_g (arguments (one (meas 14 (idx 16 0)) ∷ one (meas 19 (idx 21 0)) ∷ [])))
+      ∷ (true, meas 25 (idx 27 0)) ∷ [])))
+      ∷ out 30 (meas 31 (idx 33 0)) ∷ []);
 }
 
 -- with b the bit length of the greatest number and f its headroom:
@@ -116,20 +118,24 @@ count_program = record {
 -- out sum i in 0..b ( 2^i * meas[i] );
 abbrev pub sum_program : ℕ → ℕ → Program
 sum_program b f = record {
-  meas = 2 * b; joint = 0; gadgets = gadget_g (poly_kind bit_coefs);
+  meas = 2 * b;
+  joint = 0;
+  gadgets = gadget_g (poly_kind bit_coefs);
   stmts = statements (
-    each 15 name_i (idx 18 0) (idx 20 (2 * b)) (statements (check 22 (call 23 name_g (arguments (one (meas 25 (index_var 27 name_i)) ∷ []))) ∷ []))
-    ∷ check 32 (add 33 (items (
-        (false, num 33 f)
-        ∷ (false, bits_sum 35 name_i b (index_var 48 name_i))
-        ∷ (true, bits_sum 52 name_i b (shifted 65 b name_i)) ∷ [])))
-    ∷ out 71 (bits_sum 72 name_i b (index_var 85 name_i)) ∷ []);
+      each 15 name_i (idx 18 0) (idx 20 (2 * b)) (statements (check 22 (call 23 name_g (arguments (one (meas 25 (index_var 27 name_i)) ∷ []))) ∷ []))
+      ∷ check 32 (add 33 (items (
+      (false, num 33 f)
+      ∷ (false, bits_sum 35 name_i b (index_var 48 name_i))
+      ∷ (true, bits_sum 52 name_i b (shifted 65 b name_i)) ∷ [])))
+      ∷ out 71 (bits_sum 72 name_i b (index_var 85 name_i)) ∷ []);
 }
 
 -- meas words; joint calls; gadget g = psum chunk mul; check the range check; and then further statements, from token 66 on
 abbrev pub chunked_program : ℕ → ℕ → List Statement → Program
 chunked_program words chunk more = record {
-  meas = words; joint = quotient_up words chunk; gadgets = gadget_g (psum_kind chunk mul_kind);
+  meas = words;
+  joint = quotient_up words chunk;
+  gadgets = gadget_g (psum_kind chunk mul_kind);
   stmts = statements (check 13 (range_check 14 (quotient_up words chunk) chunk) ∷ more);
 }
 
@@ -153,9 +159,9 @@ histogram_statements length = one_check length ∷ each_word_out 82 length ∷ [
 abbrev pub weight_check : ℕ → ℕ → ℕ → Statement
 weight_check length b f =
     check 66 (add 67 (items (
-        (false, num 67 f)
-        ∷ (false, words_sum 69 name_i length)
-        ∷ (true, bits_sum 82 name_i b (shifted 95 length name_i)) ∷ [])))
+    (false, num 67 f)
+    ∷ (false, words_sum 69 name_i length)
+    ∷ (true, bits_sum 82 name_i b (shifted 95 length name_i)) ∷ [])))
 
 -- each i in 0..length ( out meas[i]; )
 abbrev pub multihot_statements : ℕ → ℕ → ℕ → List Statement

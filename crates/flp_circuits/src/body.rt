@@ -38,9 +38,18 @@ fn gadget(alloc: Global, kind: KindText) -> Result<List<Decl>, AllocError>
 fn bit_kind(alloc: Global) -> Result<KindText, AllocError>
     ensures { IfOk result (λ v. kind_of v ≡ poly_kind bit_coefs) }
 {
-    let constant = Coef { minus: false, size: Fe::ZERO };
-    let linear = Coef { minus: true, size: Fe::ONE };
-    let square = Coef { minus: false, size: Fe::ONE };
+    let constant = Coef {
+        minus: false,
+        size: Fe::ZERO,
+    };
+    let linear = Coef {
+        minus: true,
+        size: Fe::ONE,
+    };
+    let square = Coef {
+        minus: false,
+        size: Fe::ONE,
+    };
     let coefs = three(alloc, constant, linear, square)?;
     Ok(KindText::Poly(coefs))
 }
@@ -54,7 +63,13 @@ fn chunk_kind(alloc: Global, chunk: u64) -> Result<KindText, AllocError>
 }
 
 /// `first + second - third`
-fn balance(alloc: Global, at: u32, first: Expr, second: Expr, third: Expr) -> Result<Expr, AllocError>
+fn balance(
+    alloc: Global,
+    at: u32,
+    first: Expr,
+    second: Expr,
+    third: Expr,
+) -> Result<Expr, AllocError>
     ensures { IfOk result (λ v. tree_of v ≡ add at (items ((false, tree_of first) ∷ (false, tree_of second) ∷ (true, tree_of third) ∷ []))) }
 {
     let items = three(alloc, plus(first), plus(second), minus(third))?;

@@ -10,10 +10,15 @@ use crate::fault::{Param, ParamFault};
 use flp_syntax::Params;
 
 const MAX_LIMIT: u64 = 9223372036854775807;
+
 const LENGTH_LIMIT: u64 = 65536;
+
 const BITS_LIMIT: u64 = 63;
+
 const CHUNK_LIMIT: u64 = 512;
+
 const MEAS_LIMIT: u64 = 65536;
+
 const CALLS_LIMIT: u64 = 4095;
 
 /// Refuses a parameter that is 0.

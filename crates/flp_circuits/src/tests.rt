@@ -7,15 +7,18 @@ use std::process::Abort;
 use std::test::Fail;
 
 const SUM: Params = Params::Sum { max: 5 };
+
 const SUM_VEC: Params = Params::SumVec {
     length: 2,
     bits: 3,
     chunk: 2,
 };
+
 const HISTOGRAM: Params = Params::Histogram {
     length: 4,
     chunk: 2,
 };
+
 const MULTIHOT: Params = Params::Multihot {
     length: 4,
     weight: 2,
@@ -113,7 +116,11 @@ fn circuits(rt: HostRuntime) -> Result<(), Fail> {
         let body = body_of(rt.alloc(), params)?;
         assert_eq!(rt; (body.meas, body.joint), (*meas, *joint), "{params:?}");
         assert!(rt; fits(params), "{params:?}");
-        assert_eq!(rt; (input_len(params), meas_len(params)), (*inputs, *meas), "{params:?}");
+        assert_eq!(rt;
+            (input_len(params), meas_len(params)),
+            (*inputs, *meas),
+            "{params:?}"
+        );
     }
     Ok(())
 }
@@ -121,11 +128,26 @@ fn circuits(rt: HostRuntime) -> Result<(), Fail> {
 #[test]
 fn encodings(rt: HostRuntime) -> Result<(), Fail> {
     let alloc = rt.alloc();
-    assert_eq!(rt; encoding(alloc, Params::Count, &[1])?.as_slice(), [1].as_slice());
-    assert_eq!(rt; encoding(alloc, SUM, &[5])?.as_slice(), [1, 0, 1, 1, 1, 1].as_slice());
-    assert_eq!(rt; encoding(alloc, SUM_VEC, &[5, 3])?.as_slice(), [1, 0, 1, 1, 1, 0].as_slice());
-    assert_eq!(rt; encoding(alloc, HISTOGRAM, &[2])?.as_slice(), [0, 0, 1, 0].as_slice());
-    assert_eq!(rt; encoding(alloc, MULTIHOT, &[1, 0, 1, 0])?.as_slice(), [1, 0, 1, 0, 1, 1].as_slice());
+    assert_eq!(rt;
+        encoding(alloc, Params::Count, &[1])?.as_slice(),
+        [1].as_slice()
+    );
+    assert_eq!(rt;
+        encoding(alloc, SUM, &[5])?.as_slice(),
+        [1, 0, 1, 1, 1, 1].as_slice()
+    );
+    assert_eq!(rt;
+        encoding(alloc, SUM_VEC, &[5, 3])?.as_slice(),
+        [1, 0, 1, 1, 1, 0].as_slice()
+    );
+    assert_eq!(rt;
+        encoding(alloc, HISTOGRAM, &[2])?.as_slice(),
+        [0, 0, 1, 0].as_slice()
+    );
+    assert_eq!(rt;
+        encoding(alloc, MULTIHOT, &[1, 0, 1, 0])?.as_slice(),
+        [1, 0, 1, 0, 1, 1].as_slice()
+    );
     Ok(())
 }
 

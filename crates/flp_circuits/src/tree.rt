@@ -70,8 +70,14 @@ pub fn index_name(alloc: Global, at: u32, letter: u8) -> Result<Idx, AllocError>
 pub fn index_sum(alloc: Global, at: u32, first: Idx, second: Idx) -> Result<Idx, AllocError>
     ensures { IfOk result (λ v. index_of v ≡ index_sum_of at (index_of first) (index_of second)) }
 {
-    let first = IdxItem { minus: false, idx: first };
-    let second = IdxItem { minus: false, idx: second };
+    let first = IdxItem {
+        minus: false,
+        idx: first,
+    };
+    let second = IdxItem {
+        minus: false,
+        idx: second,
+    };
     let items = two(alloc, first, second)?;
     Ok(Idx::Add { at, items })
 }
@@ -161,7 +167,13 @@ pub fn power(alloc: Global, at: u32, base: Expr, exponent: Idx) -> Result<Expr, 
 }
 
 /// `sum letter in 0..to ( inner )`
-pub fn sum_below(alloc: Global, at: u32, letter: u8, to: u64, inner: Expr) -> Result<Expr, AllocError>
+pub fn sum_below(
+    alloc: Global,
+    at: u32,
+    letter: u8,
+    to: u64,
+    inner: Expr,
+) -> Result<Expr, AllocError>
     requires { at < 1000 }
     ensures { IfOk result (λ v. tree_of v ≡ sum_below at (letter ∷ []) to (tree_of inner)) }
 {
@@ -177,7 +189,13 @@ pub fn sum_below(alloc: Global, at: u32, letter: u8, to: u64, inner: Expr) -> Re
 }
 
 /// `sum letter in 0..bits ( 2^letter * meas[place] )`
-pub fn bits_sum(alloc: Global, at: u32, letter: u8, bits: u64, place: Idx) -> Result<Expr, AllocError>
+pub fn bits_sum(
+    alloc: Global,
+    at: u32,
+    letter: u8,
+    bits: u64,
+    place: Idx,
+) -> Result<Expr, AllocError>
     requires { at < 1000 }
     ensures { IfOk result (λ v. tree_of v ≡ bits_sum at (letter ∷ []) bits (index_of place)) }
 {
@@ -198,12 +216,21 @@ pub fn words_sum(alloc: Global, at: u32, letter: u8, count: u64) -> Result<Expr,
 }
 
 /// `each letter in 0..to ( out inner; )`
-pub fn each_out(alloc: Global, at: u32, letter: u8, to: u64, inner: Expr) -> Result<Stmt, AllocError>
+pub fn each_out(
+    alloc: Global,
+    at: u32,
+    letter: u8,
+    to: u64,
+    inner: Expr,
+) -> Result<Stmt, AllocError>
     requires { at < 1000 }
     ensures { IfOk result (λ v. statement_of v ≡ each_out at (letter ∷ []) to (tree_of inner)) }
 {
     let name = name(alloc, letter)?;
-    let out = Stmt::Out { at: at + 7, expr: inner };
+    let out = Stmt::Out {
+        at: at + 7,
+        expr: inner,
+    };
     let inner = one(alloc, out)?;
     Ok(Stmt::Each {
         at,
