@@ -1,15 +1,12 @@
 -- How many calls the parts of the standard circuits take, under any reading.
-use Rattle.std.proofs.Common.{ℕ, zero, suc, ◌+◌, ◌-◌, ◌*◌, ◌<◌, ◌≤◌, ◌≡◌, Bool, true, false, cond, List, [], ◌∷◌, ◌++◌, map, length, replicate, sym, ap, ap₂, ◌∙◌, refl, arith}
-use Rattle.std.specs.List.{filter}
+use Rattle.std.proofs.Common.{ℕ, zero, suc, ◌+◌, ◌*◌, ◌≡◌, Bool, true, false, cond, List, [], ◌∷◌, ◌++◌, map, length, replicate, ap, ap₂, ◌∙◌, refl, arith}
 use Rattle.flp_syntax.specs.Tree.{Kind, Tree, Items, item_on, Statement, Statements, no_stmts, stmt_on, Program, Index, check, out, each, trees, items, arguments, statements, mul, pow, meas, add, index_var, each_arg, one, call, psum_kind, mul_kind, poly_kind}
 use Rattle.flp_syntax.specs.Sorts.{is_shared, has_shared_item}
 use Rattle.flp_syntax.specs.Scope.{Scope, inside, turns, numbers_from}
-use Rattle.flp_meaning.specs.Meaning.{Call, Run, plain, changed, in_turn, total, listed, performed, Reading, called, counted, signed, Results, no_results, join_results, one_check, one_out, meaning, items_of, arguments_of, argument_of, statement_of, statements_of}
-use Rattle.flp_meaning.specs.Circuit.{calls_of}
-use Rattle.flp_meaning.specs.Gadgets.{blank, gadgets_called, times, calls_made}
-use Rattle.flp_circuits.specs.Bits.{bit_length, headroom}
+use Rattle.flp_meaning.specs.Meaning.{Call, Run, plain, changed, in_turn, total, listed, performed, Reading, called, counted, signed, no_results, join_results, one_check, one_out, meaning, items_of, arguments_of, argument_of, statement_of, statements_of}
+use Rattle.flp_meaning.specs.Gadgets.{blank, times, calls_made}
 use Rattle.flp_circuits.specs.Sizes.{quotient_up}
-use Rattle.flp_circuits.specs.Standard.{name_i, name_j, name_c, name_g, num, idx, sum_below, bits_sum, words_sum, shifted, in_row, chunk_args, chunk_call, range_check, gadget_g, bit_coefs, each_out, each_word_out, each_number_out, one_check as one_check_stmt, weight_check, sum_program, chunked_program, sum_vec_statements, histogram_statements, multihot_statements}
+use Rattle.flp_circuits.specs.Standard.{name_i, name_j, name_c, name_g, num, idx, sum_below, bits_sum, words_sum, shifted, in_row, chunk_args, chunk_call, range_check, gadget_g, bit_coefs, each_out, each_word_out, one_check as one_check_stmt, weight_check, sum_program, chunked_program, sum_vec_statements, histogram_statements, multihot_statements}
 use Rattle.flp_circuits.proofs.Gives.{turns-zero}
 
 -- so many times gadget 0

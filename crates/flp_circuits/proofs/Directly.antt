@@ -1,5 +1,5 @@
 -- What the parts of the standard circuits mean in the direct reading.
-use Rattle.std.proofs.Common.{ℕ, zero, suc, ◌+◌, ◌-◌, ◌*◌, ◌%◌, ◌^◌, ◌<◌, ◌≤◌, ◌≡◌, Bool, true, false, cond, List, [], ◌∷◌, ◌++◌, map, take, drop, slice_index, sum, sym, ap, ap₂, ◌∙◌, refl, mul_assoc, arith}
+use Rattle.std.proofs.Common.{ℕ, zero, suc, ◌+◌, ◌-◌, ◌*◌, ◌%◌, ◌^◌, ◌≡◌, Bool, true, false, cond, List, [], ◌∷◌, ◌++◌, map, slice_index, sum, sym, ap, ap₂, ◌∙◌, refl, mul_assoc, arith}
 use Rattle.std.specs.List.{sum_by, flat_map}
 use Rattle.std.proofs.lemmas.List.{append-nil}
 use Rattle.std.proofs.lemmas.List.Sums.{sum_by-cons}
@@ -7,14 +7,14 @@ use Rattle.flp_field.specs.Word.{modulus, word_product}
 use Rattle.flp_field.proofs.Congruence.{Same, same_add, same_mul, same_mod, same_eq}
 use Rattle.flp_gadget.specs.KindTree.{value_of, Mul, Psum}
 use Rattle.flp_gadget.specs.Formulas.{groups, product_value}
-use Rattle.flp_syntax.specs.Tree.{Kind, Tree, Items, item_on, Statement, Statements, no_stmts, stmt_on, add, statements, Program, Index, check, out, each, trees, items, arguments, mul, pow, meas, index_var, each_arg, one, tree_on}
+use Rattle.flp_syntax.specs.Tree.{Kind, Tree, Items, item_on, Statement, Statements, no_stmts, stmt_on, add, statements, Program, Index, check, out, trees, items, arguments, mul, pow, meas, index_var, each_arg}
 use Rattle.flp_syntax.specs.Sorts.{is_shared, has_shared_item}
-use Rattle.flp_syntax.specs.Scope.{Scope, inside, bound_value, index_value, turns, numbers_from}
-use Rattle.flp_meaning.specs.Meaning.{Run, plain, changed, total, listed, performed, Results, no_results, join_results, one_check, one_out, called, counted, signed, meaning, items_of, arguments_of, argument_of, statement_of, statements_of}
+use Rattle.flp_syntax.specs.Scope.{Scope, inside, bound_value, index_value, numbers_from}
+use Rattle.flp_meaning.specs.Meaning.{Run, changed, total, listed, performed, Results, no_results, join_results, one_check, one_out, counted, signed, meaning, items_of, arguments_of, argument_of, statement_of, statements_of}
 use Rattle.flp_meaning.specs.Circuit.{direct, kind_of}
-use Rattle.flp_circuits.specs.Standard.{name_i, name_j, name_c, name_g, idx, num, bits_sum, words_sum, word_of_chunk, chunk_args, chunk_call, range_check, gadget_g, each_out}
+use Rattle.flp_circuits.specs.Standard.{name_i, name_j, name_c, idx, num, bits_sum, words_sum, chunk_args, chunk_call, range_check, gadget_g, each_out}
 use Rattle.flp_circuits.specs.Formulas.{word, minus, sum_below, range_sum}
-use Rattle.flp_circuits.proofs.Gives.{Gives, gives_as, gives_plain, gives_changed, gives_nil, gives_cons, gives_sum, gives_list, gives_checks, gives_outs, gives_called, checks_only, outs_only}
+use Rattle.flp_circuits.proofs.Gives.{Gives, gives_as, gives_changed, gives_nil, gives_cons, gives_sum, gives_list, gives_outs, gives_called, checks_only, outs_only}
 
 -- sums of terms that are the same words are the same word
 pub sum_by-same : (f g : ℕ → ℕ) → ((t : ℕ) → Same (f t) (g t)) → (list : List ℕ) → Same (sum_by f list) (sum_by g list)

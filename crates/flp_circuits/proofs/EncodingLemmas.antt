@@ -1,12 +1,11 @@
 -- What a measurement that is not refused keeps to.
-use Rattle.std.proofs.Common.{ℕ, zero, suc, ◌+◌, ◌-◌, ◌*◌, ◌%◌, ◌^◌, ◌<◌, ◌≤◌, ◌≡◌, Bool, true, false, cond, eqb, ltb, leb, List, [], ◌∷◌, ◌++◌, length, Option, None, Some, All, sum, count_by, sym, ap, ◌∙◌, refl, ⊎_elim, arith}
+use Rattle.std.proofs.Common.{ℕ, zero, suc, ◌+◌, ◌<◌, ◌≤◌, ◌≡◌, Bool, true, false, cond, eqb, ltb, leb, List, [], ◌∷◌, length, Option, None, Some, All, sum, sym, ap, ◌∙◌, refl, arith}
 use Rattle.std.specs.Option.{option_or}
-use Rattle.std.proofs.lemmas.Bool.{ltb-true, leb-true, eqb-true, cases_lt}
+use Rattle.std.proofs.lemmas.Bool.{ltb-true, leb-true, eqb-true}
 use Rattle.std.proofs.lemmas.List.Elements.{All-nil, All-cons, All-head, All-tail}
 use Rattle.std.proofs.lemmas.List.Sums.{sum_by-cons}
 use Rattle.flp_syntax.specs.declared.syntax.Params.{Params}
-use Rattle.flp_syntax.specs.declared.syntax.Params.TheVariants.{Count, Sum, SumVec, Histogram, Multihot}
-use Rattle.flp_circuits.specs.declared.fault.MeasFault.{MeasFault}
+use Rattle.flp_syntax.specs.declared.syntax.Params.TheVariants.{Multihot}
 use Rattle.flp_circuits.specs.Sizes.{input_len_of}
 use Rattle.flp_circuits.specs.Encoding.{range_of, range_fault, weight_of, weight_fault, meas_fault}
 

@@ -1,10 +1,9 @@
 -- Why encodings are valid, and why their outs are vectors.
-use Rattle.std.proofs.Common.{ℕ, zero, suc, ◌+◌, ◌-◌, ◌*◌, ◌/◌, ◌%◌, ◌^◌, ◌<◌, ◌≤◌, ◌≡◌, cond, eqb, leb, List, [], ◌∷◌, ◌++◌, length, map, get_or, replicate, All, sum, None, Some, sym, ap, ap₂, subst, ◌∙◌, refl, lit<, mul_assoc, arith}
-use Rattle.std.specs.List.{sum_by, flat_map}
-use Rattle.std.specs.Option.{option_or}
+use Rattle.std.proofs.Common.{ℕ, zero, suc, ◌+◌, ◌-◌, ◌*◌, ◌%◌, ◌^◌, ◌<◌, ◌≤◌, ◌≡◌, leb, List, [], ◌∷◌, ◌++◌, length, map, replicate, All, sum, None, sym, ap, ap₂, subst, ◌∙◌, refl, lit<, arith}
+use Rattle.std.specs.List.{flat_map}
 use Rattle.std.proofs.lemmas.Bool.{leb-true}
 use Rattle.std.proofs.lemmas.List.{append-nil, length-append, length-replicate}
-use Rattle.std.proofs.lemmas.List.Elements.{All-nil, All-cons, All-append, All-map, All-replicate, All-head, All-get_or}
+use Rattle.std.proofs.lemmas.List.Elements.{All-nil, All-cons, All-append, All-replicate, All-get_or}
 use Rattle.std.proofs.lemmas.List.Sums.{sum_by-cons, sum_by-append}
 use Rattle.std.proofs.lemmas.List.Folds.{sum_by-replicate}
 use Rattle.std.proofs.Math.Nat.{pow-le-pow_right}
@@ -13,7 +12,7 @@ use Rattle.flp_field.proofs.Congruence.{Same, same_mul, same_eq, word_mod}
 use Rattle.flp_syntax.specs.declared.syntax.Params.{Params}
 use Rattle.flp_syntax.specs.declared.syntax.Params.TheVariants.{Count, Sum, SumVec, Histogram, Multihot}
 use Rattle.flp_syntax.specs.Scope.{numbers_from}
-use Rattle.flp_meaning.specs.Circuit.{outs_of, IsValid, direct, checks_of}
+use Rattle.flp_meaning.specs.Circuit.{outs_of, IsValid}
 use Rattle.flp_circuits.specs.Bits.{bit_length, headroom, bits_of}
 use Rattle.flp_circuits.specs.Sizes.{Fits, meas_len_of, quotient_up, parameters, counts, first_zero, first_too_large}
 use Rattle.flp_circuits.specs.Encoding.{the_number, one_at, vector_of, encoding_of, meas_fault, range_of}

@@ -1,10 +1,9 @@
 -- What runs give, however many calls were made before them; and sums over the turns of loops.
-use Rattle.std.proofs.Common.{ℕ, zero, suc, ◌+◌, ◌-◌, ◌*◌, ◌%◌, ◌^◌, ◌<◌, ◌≤◌, ◌≡◌, List, [], ◌∷◌, ◌++◌, map, sym, ap, ap₂, ◌∙◌, refl, arith}
+use Rattle.std.proofs.Common.{ℕ, ◌+◌, ◌-◌, ◌≡◌, List, [], ◌∷◌, ◌++◌, map, sym, ap, ap₂, ◌∙◌, refl, arith}
 use Rattle.std.specs.List.{sum_by, flat_map}
 use Rattle.std.proofs.lemmas.List.Sums.{sum_by-cons}
-use Rattle.flp_field.specs.Word.{modulus}
 use Rattle.flp_syntax.specs.Scope.{turns, numbers_from}
-use Rattle.flp_meaning.specs.Meaning.{Call, Meant, Run, plain, changed, then_run, in_turn, total, product, listed, performed, Reading, called, Results, no_results, join_results, one_check, one_out}
+use Rattle.flp_meaning.specs.Meaning.{Call, Run, plain, changed, in_turn, total, listed, performed, Reading, called, Results, no_results, join_results}
 
 -- the run gives this value, wherever it begins
 pub record Gives {A : Type 0} (part : Run A) (value : A) : Type 0 where

@@ -1,5 +1,5 @@
 -- Walks that meet so many nodes, calls of the one gadget, checks and outs, and no fault, where there is room for them.
-use Rattle.std.proofs.Common.{ℕ, zero, suc, ◌+◌, ◌-◌, ◌*◌, ◌<◌, ◌≤◌, ◌≡◌, Bool, true, false, cond, ltb, leb, List, [], ◌∷◌, ◌++◌, Result, Ok, Err, sym, ap, subst, ◌∙◌, refl, arith}
+use Rattle.std.proofs.Common.{ℕ, zero, suc, ◌+◌, ◌*◌, ◌<◌, ◌≤◌, ◌≡◌, Bool, cond, List, [], ◌∷◌, ◌++◌, Result, Ok, Err, sym, ap, subst, ◌∙◌, arith}
 use Rattle.std.specs.List.{flat_map, sum_by}
 use Rattle.std.proofs.lemmas.Bool.{lt-ltb, le-leb}
 use Rattle.std.proofs.lemmas.List.Sums.{sum_by-cons}
@@ -7,8 +7,8 @@ use Rattle.flp_syntax.specs.declared.fault.LangFault.{LangFault}
 use Rattle.flp_syntax.specs.declared.fault.LangFault.TheVariants.{Limit}
 use Rattle.flp_syntax.specs.declared.fault.Counted.TheVariants as counted
 use Rattle.flp_syntax.specs.Scope.{turns, numbers_from}
-use Rattle.flp_check.specs.Events.{Event, visit, bad_index, bad_arity, gadget_call, a_check, an_out, in_range, in_words, call_events, arity_at}
-use Rattle.flp_check.specs.Counts.{Counts, meet, go_on, walk}
+use Rattle.flp_check.specs.Events.{Event, visit, bad_index, gadget_call, a_check, an_out, in_range, in_words}
+use Rattle.flp_check.specs.Counts.{Counts, go_on, walk}
 use Rattle.flp_check.proofs.Walking.{walk-append}
 use Rattle.flp_circuits.proofs.Gives.{turns-zero}
 

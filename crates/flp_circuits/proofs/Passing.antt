@@ -1,25 +1,24 @@
 -- `check` finds no fault in the standard circuits.
-use Rattle.std.proofs.Common.{ℕ, zero, suc, ◌+◌, ◌-◌, ◌*◌, ◌/◌, ◌^◌, ◌<◌, ◌≤◌, ◌≡◌, Bool, true, false, cond, ◌&&◌, leb, min, List, [], ◌∷◌, ◌++◌, Option, None, Some, Result, Ok, Err, sym, ap, ap₂, ◌∙◌, refl, lit<, arith}
+use Rattle.std.proofs.Common.{ℕ, zero, suc, ◌+◌, ◌-◌, ◌*◌, ◌<◌, ◌≤◌, ◌≡◌, Bool, true, false, cond, ◌&&◌, List, [], ◌∷◌, ◌++◌, Some, Ok, ap, ap₂, ◌∙◌, refl, arith}
 use Rattle.std.specs.Option.{option_map}
-use Rattle.std.specs.List.{flat_map}
 use Rattle.std.proofs.Math.Nat.{min-eq_left, mul-le-mul, mul-le-mul_right}
 use Rattle.std.proofs.lemmas.Bool.{le-leb}
 use Rattle.flp_syntax.specs.declared.syntax.Params.{Params}
 use Rattle.flp_syntax.specs.declared.syntax.Params.TheVariants.{Count, Sum, SumVec, Histogram, Multihot}
 use Rattle.flp_syntax.specs.declared.fault.LangFault.{LangFault}
-use Rattle.flp_syntax.specs.declared.fault.LangFault.TheVariants.{Limit, Uncalled}
+use Rattle.flp_syntax.specs.declared.fault.LangFault.TheVariants.{Limit}
 use Rattle.flp_syntax.specs.declared.fault.Counted.{Counted}
 use Rattle.flp_syntax.specs.declared.fault.Counted.TheVariants as counted
-use Rattle.flp_syntax.specs.Tree.{Kind, Program, Statement, statements, Tree, psum_kind, mul_kind, poly_kind, check, out, each, call, add, items, one, arguments, meas, index_var}
-use Rattle.flp_syntax.specs.Scope.{Scope, inside, arity_of, degree_of}
+use Rattle.flp_syntax.specs.Tree.{Kind, Program, Statement, statements, psum_kind, mul_kind, poly_kind, check, out, each, call, add, items, one, arguments, meas, index_var}
+use Rattle.flp_syntax.specs.Scope.{inside, arity_of, degree_of}
 use Rattle.flp_check.specs.Limits.{first, outside, named_count, gadget_faults, declared_faults, uncalled, closing_faults}
 use Rattle.flp_check.specs.Flaws.{text_flaws, first_flaw}
-use Rattle.flp_check.specs.Events.{Event, body_events, stmt_events, stmts_events, tree_events, args_events, call_events}
+use Rattle.flp_check.specs.Events.{body_events, stmt_events, stmts_events, tree_events, call_events}
 use Rattle.flp_check.specs.Counts.{Counts, walk, go_on}
-use Rattle.flp_check.specs.Verdict.{Totals, unless, flaw_fault, no_counts, totals_of, closed, verdict}
+use Rattle.flp_check.specs.Verdict.{unless, flaw_fault, no_counts, totals_of, closed, verdict}
 use Rattle.flp_circuits.specs.Bits.{bit_length, headroom}
-use Rattle.flp_circuits.specs.Sizes.{Fits, meas_len_of, quotient_up}
-use Rattle.flp_circuits.specs.Standard.{name_i, name_j, name_g, num, idx, bits_sum, words_sum, shifted, in_row, range_check, gadget_g, bit_coefs, each_out, each_word_out, each_number_out, one_check, weight_check, sum_program, chunked_program, sum_vec_statements, histogram_statements, multihot_statements, standard_program}
+use Rattle.flp_circuits.specs.Sizes.{Fits, quotient_up}
+use Rattle.flp_circuits.specs.Standard.{name_i, name_j, name_g, num, idx, bits_sum, words_sum, shifted, in_row, range_check, gadget_g, bit_coefs, each_word_out, each_number_out, one_check, weight_check, sum_program, chunked_program, sum_vec_statements, histogram_statements, multihot_statements, standard_program}
 use Rattle.flp_circuits.specs.Laws as laws
 use Rattle.flp_circuits.proofs.BitLemmas.{bit_length-below}
 use Rattle.flp_circuits.proofs.Fitting.{fitting, bit_length-some, quotient-some, quotient-few}
@@ -185,7 +184,7 @@ multihot_met length b f chunk long =
 
 -- ---- the verdicts
 
-pub circuits_pass : (params : Params) → Fits params → verdict (standard_program params) ≡ Ok (laws.totals_of params)
+pub circuits_pass : (params : Params) → Fits params → verdict (standard_program params) ≡ Ok (laws.circuit_totals params)
 unfolding sum_tally
 circuits_pass Count h = refl
 circuits_pass (Sum max) h =

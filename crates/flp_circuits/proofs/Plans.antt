@@ -1,15 +1,15 @@
 -- Plans of the standard circuits are small.
-use Rattle.std.proofs.Common.{ℕ, zero, suc, ◌+◌, ◌-◌, ◌*◌, ◌^◌, ◌<◌, ◌≤◌, ◌≡◌, Bool, true, false, cond, leb, ltb, List, [], ◌∷◌, ◌++◌, Option, None, Some, sym, ap, ◌∙◌, refl, ⊎_elim, arith}
+use Rattle.std.proofs.Common.{ℕ, zero, suc, ◌+◌, ◌-◌, ◌*◌, ◌^◌, ◌<◌, ◌≤◌, ◌≡◌, Bool, true, false, cond, leb, ltb, List, [], ◌∷◌, Some, ap, refl, ⊎_elim, arith}
 use Rattle.std.specs.Option.{unwrap_or}
 use Rattle.std.specs.List.{sum_by}
 use Rattle.std.proofs.Math.Nat.{add-le-add, mul-le-mul, mul-le-mul_left}
-use Rattle.std.proofs.lemmas.Bool.{cases_lt, le-leb, cond_both, leb-false}
+use Rattle.std.proofs.lemmas.Bool.{cases_lt, cond_both, leb-false}
 use Rattle.std.proofs.lemmas.List.Sums.{sum_by-cons}
 use Rattle.flp_syntax.specs.declared.syntax.Params.{Params}
 use Rattle.flp_syntax.specs.declared.syntax.Params.TheVariants.{Count, Sum, SumVec, Histogram, Multihot}
-use Rattle.flp_syntax.specs.Tree.{psum_kind, mul_kind, Statement, statements, check, arguments, Index, index_var}
+use Rattle.flp_syntax.specs.Tree.{statements, check, arguments, Index, index_var}
 use Rattle.flp_syntax.specs.Scope.{Scope, inside, turns, numbers_from}
-use Rattle.flp_meaning.specs.Gadgets.{first_where, ceil_log, size_of, calls_made}
+use Rattle.flp_meaning.specs.Gadgets.{first_where, ceil_log, calls_made}
 use Rattle.flp_meaning.specs.Terms.{wire_count, term_count, form_terms, input_terms, terms_of_arguments, terms_of_statements, statement_terms}
 use Rattle.flp_circuits.specs.Bits.{bit_length, headroom}
 use Rattle.flp_circuits.specs.Sizes.{Fits, quotient_up}

@@ -1,5 +1,5 @@
 -- What the standard circuits mean: their checks are the formulas, and their outs.
-use Rattle.std.proofs.Common.{ℕ, zero, suc, ◌+◌, ◌-◌, ◌*◌, ◌%◌, ◌^◌, ◌<◌, ◌≤◌, ◌≡◌, true, false, List, [], ◌∷◌, ◌++◌, map, slice_index, sym, ap, ap₂, ◌∙◌, refl, arith}
+use Rattle.std.proofs.Common.{ℕ, ◌+◌, ◌-◌, ◌*◌, ◌%◌, ◌^◌, ◌≡◌, true, false, List, [], ◌∷◌, ◌++◌, map, ap, ap₂, ◌∙◌, refl, arith}
 use Rattle.std.proofs.Math.Nat.{pow-suc, pow-zero}
 use Rattle.std.proofs.lemmas.List.{append-nil}
 use Rattle.flp_field.specs.Word.{modulus, word_product}
@@ -7,14 +7,14 @@ use Rattle.flp_field.proofs.Congruence.{Same, same_add, same_mul, same_mod, same
 use Rattle.flp_poly.specs.Polynomial.{value_at}
 use Rattle.flp_syntax.specs.declared.syntax.Params.{Params}
 use Rattle.flp_syntax.specs.declared.syntax.Params.TheVariants.{Count, Sum, SumVec, Histogram, Multihot}
-use Rattle.flp_syntax.specs.Tree.{Statement, statements, Program, psum_kind, mul_kind, poly_kind, check, out, add, items, index_var, call, one, arguments, meas, each, no_stmts}
+use Rattle.flp_syntax.specs.Tree.{Statement, statements, psum_kind, mul_kind, poly_kind, check, out, add, items, index_var, call, one, arguments, meas, each, no_stmts}
 use Rattle.flp_syntax.specs.Scope.{inside, numbers_from}
-use Rattle.flp_meaning.specs.Meaning.{Results, no_results, join_results, performed, meaning, statement_of, statements_of}
-use Rattle.flp_meaning.specs.Circuit.{direct, checks_of, outs_of, circuit_of}
+use Rattle.flp_meaning.specs.Meaning.{Results, no_results, join_results, performed, statements_of}
+use Rattle.flp_meaning.specs.Circuit.{direct, checks_of, outs_of}
 use Rattle.flp_circuits.specs.Bits.{bit_length, headroom}
-use Rattle.flp_circuits.specs.Sizes.{meas_len_of, quotient_up}
-use Rattle.flp_circuits.specs.Standard.{name_i, name_j, name_g, num, idx, bits_sum, words_sum, shifted, in_row, range_check, gadget_g, bit_coefs, each_out, each_word_out, count_program, sum_program, chunked_program, sum_vec_statements, histogram_statements, multihot_statements, weight_check, standard_program}
-use Rattle.flp_circuits.specs.Formulas.{word, minus, sum_below, bit_check, number_at, range_sum, range_formula, formula_of}
+use Rattle.flp_circuits.specs.Sizes.{quotient_up}
+use Rattle.flp_circuits.specs.Standard.{name_i, name_j, name_g, num, idx, bits_sum, words_sum, shifted, in_row, range_check, gadget_g, bit_coefs, each_out, each_word_out, count_program, sum_program, chunked_program, sum_vec_statements, histogram_statements, multihot_statements, standard_program}
+use Rattle.flp_circuits.specs.Formulas.{word, minus, sum_below, bit_check, number_at, range_sum, formula_of}
 use Rattle.flp_circuits.proofs.Gives.{Gives, gives_as, gives_plain, gives_nil, gives_checks, checks_only, outs_only}
 use Rattle.flp_circuits.proofs.Directly.{gives_bits, gives_words, gives_difference, gives_balance, gives_check, gives_out, gives_stmt, gives_each_out, gives_range, range-formula}
 

@@ -1,12 +1,12 @@
 -- The standard circuits are well formed: names are names, no list is empty, and places are small.
-use Rattle.std.proofs.Common.{ℕ, ◌+◌, ◌*◌, ◌<◌, ◌≡◌, lit<, true, false, List, [], ◌∷◌, refl, arith}
+use Rattle.std.proofs.Common.{ℕ, ◌+◌, ◌*◌, ◌<◌, lit<, true, false, List, [], ◌∷◌, refl, arith}
 use Rattle.flp_syntax.specs.declared.syntax.Params.{Params}
 use Rattle.flp_syntax.specs.declared.syntax.Params.TheVariants.{Count, Sum, SumVec, Histogram, Multihot}
-use Rattle.flp_syntax.specs.Tree.{Index, Tree, Argument, Statement, Statements, Program, statements, add, items, mul, trees, pow, meas, index_var}
-use Rattle.flp_syntax.specs.WellFormed.{IsName, IsPlace, IndexIsWell, TreeIsWell, ArgumentsAreWell, StatementIsWell, StatementsAreWell, ProgramIsWell, HasStmt}
+use Rattle.flp_syntax.specs.Tree.{Index, Tree, Statement, statements, add, items, mul, trees, pow, meas, index_var}
+use Rattle.flp_syntax.specs.WellFormed.{IsName, IsPlace, IndexIsWell, TreeIsWell, StatementIsWell, StatementsAreWell, ProgramIsWell}
 use Rattle.flp_circuits.specs.Bits.{bit_length, headroom}
 use Rattle.flp_circuits.specs.Sizes.{quotient_up}
-use Rattle.flp_circuits.specs.Standard.{name_i, name_j, name_c, name_g, num, idx, shifted, in_row, sum_below, bits_sum, words_sum, word_of_chunk, joint_power, chunk_args, chunk_call, range_check, each_out, each_word_out, each_number_out, one_check, weight_check, standard_program, sum_vec_statements, histogram_statements, multihot_statements, chunked_program, count_program, sum_program}
+use Rattle.flp_circuits.specs.Standard.{name_i, name_j, name_c, name_g, num, shifted, in_row, sum_below, bits_sum, words_sum, chunk_call, range_check, each_out, each_word_out, standard_program, sum_vec_statements, histogram_statements, multihot_statements, chunked_program, count_program, sum_program}
 
 -- a place that is small
 small : (at k : ℕ) → at < 1000 → k < 1000 → IsPlace (at + k)

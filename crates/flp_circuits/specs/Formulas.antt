@@ -1,5 +1,5 @@
 -- The checks of the standard circuits as plain sums over the words of an encoding. Sums are of whole numbers, and each check is taken modulo p.
-use Rattle.std.specs.Prelude.{ℕ, suc, ◌+◌, ◌-◌, ◌*◌, ◌%◌, ◌^◌, List, [], ◌∷◌, ◌++◌, map, slice_index}
+use Rattle.std.specs.Prelude.{ℕ, ◌+◌, ◌-◌, ◌*◌, ◌%◌, ◌^◌, List, [], ◌∷◌, ◌++◌, map, slice_index}
 use Rattle.std.specs.List.{sum_by}
 use Rattle.flp_field.specs.Word.{modulus}
 use Rattle.flp_syntax.specs.declared.syntax.Params.{Params}

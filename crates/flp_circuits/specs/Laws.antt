@@ -38,16 +38,16 @@ OutsAreVectors =
     → outs_of (standard_program params) (encoding_of params input) ≡ vector_of params input
 
 -- the calls of the gadget, the checks and the outs of the circuit
-abbrev pub totals_of : Params → Totals
-totals_of Count = record { calls = 1 ∷ []; checks = 1; outs = 1 }
-totals_of (Sum max) = record { calls = 2 * bit_length max ∷ []; checks = 2 * bit_length max + 1; outs = 1 }
-totals_of (SumVec length bits chunk) = record { calls = quotient_up (meas_len_of (SumVec length bits chunk)) chunk ∷ []; checks = 1; outs = length }
-totals_of (Histogram length chunk) = record { calls = quotient_up (meas_len_of (Histogram length chunk)) chunk ∷ []; checks = 2; outs = length }
-totals_of (Multihot length weight chunk) = record { calls = quotient_up (meas_len_of (Multihot length weight chunk)) chunk ∷ []; checks = 2; outs = length }
+abbrev pub circuit_totals : Params → Totals
+circuit_totals Count = record { calls = 1 ∷ []; checks = 1; outs = 1 }
+circuit_totals (Sum max) = record { calls = 2 * bit_length max ∷ []; checks = 2 * bit_length max + 1; outs = 1 }
+circuit_totals (SumVec length bits chunk) = record { calls = quotient_up (meas_len_of (SumVec length bits chunk)) chunk ∷ []; checks = 1; outs = length }
+circuit_totals (Histogram length chunk) = record { calls = quotient_up (meas_len_of (Histogram length chunk)) chunk ∷ []; checks = 2; outs = length }
+circuit_totals (Multihot length weight chunk) = record { calls = quotient_up (meas_len_of (Multihot length weight chunk)) chunk ∷ []; checks = 2; outs = length }
 
 -- `check` finds no fault in the circuit of parameters that fit, and counts these
 abbrev pub CircuitsPass : Type 0
-CircuitsPass = (params : Params) → Fits params → verdict (standard_program params) ≡ Ok (totals_of params)
+CircuitsPass = (params : Params) → Fits params → verdict (standard_program params) ≡ Ok (circuit_totals params)
 
 -- a plan of the circuit has at most 1,048,576 wires and as many terms
 abbrev pub PlansAreSmall : Type 0

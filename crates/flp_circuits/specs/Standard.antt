@@ -1,10 +1,10 @@
 -- The standard circuits as syntax trees, from their parts up. The tokens of a circuit are numbered as `print` writes it, from 0; what stands
 -- behind a part is numbered from the part's first token.
-use Rattle.std.specs.Prelude.{ℕ, ◌+◌, ◌*◌, List, [], ◌∷◌, Bool, true, false, codes}
+use Rattle.std.specs.Prelude.{ℕ, ◌+◌, ◌*◌, List, [], ◌∷◌, true, false, codes}
 use Rattle.flp_syntax.specs.declared.syntax.Coef.{Coef}
 use Rattle.flp_syntax.specs.declared.syntax.Params.{Params}
 use Rattle.flp_syntax.specs.declared.syntax.Params.TheVariants.{Count, Sum, SumVec, Histogram, Multihot}
-use Rattle.flp_syntax.specs.Tree.{Index, index_number, index_var, index_add, index_mul, index_items, indices, Tree, number, var, joint, meas, meas_or_zero, sum, call, add, mul, pow, items, trees, Argument, one, each_arg, arguments, Statement, check, out, each, statements, Kind, mul_kind, poly_kind, psum_kind, Declaration, Program}
+use Rattle.flp_syntax.specs.Tree.{Index, index_number, index_var, index_add, index_mul, index_items, indices, Tree, number, joint, meas, meas_or_zero, sum, call, add, mul, pow, items, trees, Argument, one, each_arg, arguments, Statement, check, out, each, statements, Kind, mul_kind, poly_kind, psum_kind, Declaration, Program}
 use Rattle.flp_circuits.specs.Bits.{bit_length, headroom}
 use Rattle.flp_circuits.specs.Sizes.{meas_len_of, quotient_up}
 

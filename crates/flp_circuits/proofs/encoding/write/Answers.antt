@@ -1,7 +1,5 @@
-use Rattle.std.proofs.Common.{None, ◌≡◌}
 use Rattle.flp_syntax.specs.declared.syntax.Params.TheVariants.{Multihot}
-use Rattle.flp_circuits.specs.Encoding.{meas_fault}
-use Rattle.flp_circuits.proofs.EncodingLemmas.{taken, IsTaken, multihot_light}
+use Rattle.flp_circuits.proofs.EncodingLemmas.{taken, multihot_light}
 use Rattle.flp_circuits.proofs.encoding.write.Goals as goal
 
 pub write_multihot-requires-clause-bits : goal.write_multihot-requires-clause-bits
