@@ -1,13 +1,14 @@
 //! Public values in a straight line.
-ghost use Rattle.std.specs.Prelude.{◌≡◌, ℕ, List, ◌+◌, ◌*◌, ◌%◌, ◌^◌, ◌<◌, ◌≤◌, length, map, IfOk, OnErr, IfSome, slice_get, slice_index, Some};
+ghost use Rattle.std.specs.Prelude.{◌≡◌, ℕ, List, ◌+◌, ◌*◌, ◌^◌, ◌<◌, ◌≤◌, length, map, IfOk, OnErr, IfSome, slice_index};
 ghost use Rattle.std.specs.List.{range_with_len};
-ghost use Rattle.flp_field.specs.Word.{modulus};
-ghost use Rattle.flp_forms.specs.PublicValues.{publics, public_at, StepFits};
-ghost use Rattle.flp_forms.specs.StraightLine.{Grows, StandsFor};
+ghost use Rattle.flp_forms.specs.PublicValues.{step_value, publics, public_at, reduced, StepFits};
+ghost use Rattle.flp_forms.specs.StraightLine.{Grows, StandsFor, ScalesBy};
+ghost use Rattle.flp_forms.specs.LinearForms.{scale_value, ScaleFits};
 
 use crate::Memory;
 use crate::step::{Step, value_of};
-use flp_field::Fe;
+use crate::term::Scale;
+use flp_field::{Fe, MODULUS};
 use std::alloc::Global;
 use std::collections::HashMap;
 use std::marker::Model;
@@ -136,14 +137,63 @@ impl Steps {
         self.raised(base, exponent)
     }
 
+    /// The coefficient with the value of a step: 1 or -1 where the step is that constant, and then it takes no product.
+    pub fn scale_of(&self, step: u32) -> Scale
+        requires { step < length self.now.steps }
+        ensures { ScalesBy self.now result (λ joint. public_at self.now.steps step joint) }
+    {
+        if let Step::Constant(word) = &self.items[step as usize] {
+            if word.value() == 1 {
+                return Scale::One;
+            }
+            if word.value() == MODULUS - 1 {
+                return Scale::MinusOne;
+            }
+        }
+        Scale::Value(step)
+    }
+
+    /// The coefficient that is the product of two. After want of memory there may be new steps.
+    pub fn scale_product(&mut self, left: Scale, right: Scale) -> Result<Scale, Memory>
+        requires left { ScaleFits (length self.old.steps) left }
+        requires right { ScaleFits (length self.old.steps) right }
+        ensures grows { Grows self.old self.new }
+        ensures few { length self.new.steps ≤ length self.old.steps + 3 }
+        ensures value { IfOk result (λ scale. ScalesBy self.new scale (λ joint. scale_value (publics self.old.steps joint) left * scale_value (publics self.old.steps joint) right)) }
+    {
+        match (left, right) {
+            (Scale::One, scale) | (scale, Scale::One) => Ok(scale),
+            (left, right) => {
+                let first = self.step_of(left)?;
+                let second = self.step_of(right)?;
+                let product = self.product(first, second)?;
+                Ok(Scale::Value(product))
+            }
+        }
+    }
+
     /// Writes the public values under these joint words to `out`, which has as many places as there are steps.
     pub fn run(&self, joint: &[Fe], out: &mut [Fe])
         requires words { length joint.now ≡ self.now.joint }
         requires size { length out.old ≡ length self.now.steps }
-        ensures { out.new ≡ map (λ v. v % modulus) (publics self.now.steps joint.now) }
+        ensures { out.new ≡ reduced (publics self.now.steps joint.now) }
     {
         for (i, step) in self.items.iter().enumerate() {
             out[i] = value_of(*step, joint, &out[..i]);
+        }
+    }
+
+    /// A step of the value of a coefficient.
+    fn step_of(&mut self, scale: Scale) -> Result<u32, Memory>
+        requires { ScaleFits (length self.old.steps) scale }
+        ensures grows { Grows self.old self.new }
+        ensures few { length self.new.steps ≤ length self.old.steps + 1 }
+        ensures value { IfOk result (λ step. StandsFor self.new step (λ joint. scale_value (publics self.old.steps joint) scale)) }
+    {
+        match scale {
+            Scale::One => self.constant(Fe::ONE),
+            Scale::MinusOne => self.constant(Fe::ONE.neg()),
+            Scale::Value(step) => Ok(step),
         }
     }
 
@@ -152,6 +202,7 @@ impl Steps {
         requires base { base < length self.old.steps }
         requires some { 0 < exponent }
         ensures grows { Grows self.old self.new }
+        ensures few { (digits : ℕ) → exponent < 2 ^ digits → length self.new.steps ≤ length self.old.steps + 2 * digits }
         ensures value { IfOk result (λ step. StandsFor self.new step (λ joint. public_at self.old.steps base joint ^ exponent)) }
     {
         if exponent == 1 {
@@ -171,7 +222,7 @@ impl Steps {
         requires { StepFits self.old.joint (length self.old.steps) step.now }
         ensures grows { Grows self.old self.new }
         ensures few { length self.new.steps ≤ length self.old.steps + 1 }
-        ensures there { IfOk result (λ index. slice_get self.new.steps index ≡ Some step.now) }
+        ensures value { IfOk result (λ index. StandsFor self.new index (λ joint. step_value (publics self.old.steps joint) joint step.now)) }
         ensures err { OnErr result (self.new ≡ self.old) }
     {
         if let Some(index) = self.place_of(step) {
@@ -188,7 +239,7 @@ impl Steps {
 
     /// Where this step stands, if the table tells.
     fn place_of(&self, step: &Step) -> Option<u32>
-        ensures { IfSome result (λ index. slice_get self.now.steps index ≡ Some step.now) }
+        ensures { IfSome result (λ index. StandsFor self.now index (λ joint. step_value (publics self.now.steps joint) joint step.now)) }
     {
         let index = *self.seen.get(&key_of(step))?;
         let found = self.items.get(index as usize)?;
