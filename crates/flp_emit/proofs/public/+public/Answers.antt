@@ -1,4 +1,4 @@
-use Rattle.std.proofs.Common.{ℕ, ◌≡◌, ◌+◌, ◌^◌, ◌∙◌, map, drop, rules, refl}
+use Rattle.std.proofs.Common.{ℕ, ◌≡◌, ◌+◌, ◌^◌, ◌∙◌, map, drop, rules, arith}
 use Rattle.std.proofs.lemmas.List.{drop_all}
 use Rattle.flp_syntax.specs.declared.syntax.Item.{the_lemmas}
 use Rattle.flp_syntax.specs.Tree.{items, trees}
@@ -38,7 +38,7 @@ public_sum-public_step-requires t c =
     (c.loop-item.invariant.grows.joint ∙ c.requires.joint,
     (first_item_public c.item-item.result.minus (tree_of c.item-item.result.expr) (items (map item_of (drop (c.loop-item.item-index + 1) c.args.list.now)))
     (rw (rest_items _ _ c.item-item.result c.loop-item-test.true c.item-item.is) at c.loop-item.invariant.public),
-    ((rw (rest_items _ _ c.item-item.result c.loop-item-test.true c.item-item.is) at c.loop-item.invariant.fits).0, tt))))
+    ((rw (rest_items _ _ c.item-item.result c.loop-item-test.true c.item-item.is) at c.loop-item.invariant.fits).0))))
 
 pub public_sum-loop-item-preserved : goal.public_sum-loop-item-preserved
 public_sum-loop-item-preserved t c = record {
@@ -84,28 +84,28 @@ public_step-public_turns-requires t c =
     (c.requires.joint,
     (rw c.deref.ensures (rw (c.in-Sum.is, tree_of_Sum) at c.requires.public),
     (rw (c.index_value.ensures, c.index_value-in-Sum.ensures, c.as_slice-in-Sum.ensures, c.deref.ensures)
-    (rw (c.in-Sum.is, tree_of_Sum) at c.requires.fits).turns, tt))))
+    (rw (c.in-Sum.is, tree_of_Sum) at c.requires.fits).turns))))
 
 pub public_step-public_sum-requires : goal.public_step-public_sum-requires
 public_step-public_sum-requires t c =
     (search (rules, the_lemmas),
     (c.requires.joint,
     (rw c.as_slice-in-Add.ensures (rw (c.in-Add.is, tree_of_Add) at c.requires.public),
-    (rw c.as_slice-in-Add.ensures (rw (c.in-Add.is, tree_of_Add) at c.requires.fits), tt))))
+    (rw c.as_slice-in-Add.ensures (rw (c.in-Add.is, tree_of_Add) at c.requires.fits)))))
 
 pub public_step-public_product-requires : goal.public_step-public_product-requires
 public_step-public_product-requires t c =
     (search (rules, the_lemmas),
     (c.requires.joint,
     (rw c.as_slice-in-Mul.ensures (rw (c.in-Mul.is, tree_of_Mul) at c.requires.public),
-    (rw c.as_slice-in-Mul.ensures (rw (c.in-Mul.is, tree_of_Mul) at c.requires.fits).1, tt))))
+    (rw c.as_slice-in-Mul.ensures (rw (c.in-Mul.is, tree_of_Mul) at c.requires.fits).1))))
 
 pub public_step-public_step-requires : goal.public_step-public_step-requires
 public_step-public_step-requires t c =
     (search (rules, the_lemmas),
     (c.requires.joint,
     (rw c.deref-in-Pow.ensures (rw (c.in-Pow.is, tree_of_Pow) at c.requires.public),
-    (rw c.deref-in-Pow.ensures (rw (c.in-Pow.is, tree_of_Pow) at c.requires.fits).1, tt))))
+    (rw c.deref-in-Pow.ensures (rw (c.in-Pow.is, tree_of_Pow) at c.requires.fits).1))))
 
 pub public_step-returns-in-Joint : goal.public_step-returns-in-Joint
 public_step-returns-in-Joint t c =
@@ -126,4 +126,4 @@ public_step-returns-in-Mul t c = rw (c.in-Mul.is, tree_of_Mul, ← c.as_slice-in
 pub public_step-returns-in_ok-power-in-Pow : goal.public_step-returns-in_ok-power-in-Pow
 public_step-returns-in_ok-power-in-Pow t c =
     rw (c.in-Pow.is, tree_of_Pow, ← c.index_value-exponent.ensures, ← c.deref-in-Pow.ensures)
-    (makes_changed (λ n. n ^ c.index_value-exponent.result) c.in_ok-base.ensures c.in_ok-power.ensures)
+    (makes_changed (λ n. n ^ c.index_value-exponent.result) c.in_ok-base-in-Pow.ensures c.in_ok-power-in-Pow.ensures)
