@@ -9,9 +9,12 @@
 mod body;
 mod code;
 mod index;
+mod made;
 mod public;
 mod scope;
+mod shared;
 mod sorts;
+mod stmt;
 mod value;
 
 pub use body::emit;
