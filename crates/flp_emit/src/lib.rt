@@ -21,3 +21,6 @@ pub use body::emit;
 pub use code::{CallForms, Code};
 /// Want of memory.
 pub use std::alloc::AllocError as Memory;
+
+#[cfg(test)]
+mod tests;
