@@ -123,8 +123,8 @@ impl Steps {
 
     /// A step of the value of a step to a power, which is 1 where the exponent is 0.
     ///
-    /// It takes at most two products for each binary digit of the exponent, and one where the power with half
-    /// the exponent, or with the exponent less one, is there. After want of memory there may be new steps.
+    /// It takes at most two products for each binary digit of the exponent, and the powers of a step in turn, from
+    /// the first on, take one each. After want of memory there may be new steps.
     pub fn power(&mut self, base: u32, exponent: u64) -> Result<u32, Memory>
         requires { base < length self.old.steps }
         ensures grows { Grows self.old self.new }
