@@ -1,0 +1,1 @@
+-- Public values when steps are appended.

@@ -1,0 +1,207 @@
+//! Public values in a straight line.
+ghost use Rattle.std.specs.Prelude.{◌≡◌, ℕ, List, ◌+◌, ◌*◌, ◌%◌, ◌^◌, ◌<◌, ◌≤◌, length, map, IfOk, OnErr, IfSome, slice_get, slice_index, Some};
+ghost use Rattle.std.specs.List.{range_with_len};
+ghost use Rattle.flp_field.specs.Word.{modulus};
+ghost use Rattle.flp_forms.specs.PublicValues.{publics, public_at, StepFits};
+ghost use Rattle.flp_forms.specs.StraightLine.{Grows, StandsFor};
+
+use crate::Memory;
+use crate::step::{Step, value_of};
+use flp_field::Fe;
+use std::alloc::Global;
+use std::collections::HashMap;
+use std::marker::Model;
+
+/// A step by which the table of steps is asked.
+#[derive(Clone, Copy, PartialEq, Eq, Hash, Debug)]
+enum Key {
+    Constant(u64),
+    Joint(u32),
+    Sum(u32, u32),
+    Product(u32, u32),
+}
+
+/// Public values in a straight line: a list of steps, each of which reads earlier ones.
+///
+/// The first steps are the joint words, one step each. Every other call asks first whether the step that it
+/// would append is there already, so equal steps are one: the powers of a word in turn, from the first on,
+/// take one product each, however often they are asked for.
+///
+/// Contracts see the number of joint words and the list of steps.
+#[derive(Drop)]
+pub struct Steps {
+    joint: u32,
+    items: Vec<Step>,
+    /// Where a step stands. What it tells is looked up before it is used.
+    seen: HashMap<Key, u32>,
+}
+
+impl Model for Steps {
+    ghost use Rattle.flp_forms.specs.StraightLine.{StraightLine, IsStraightLine};
+
+    ghost Value = { StraightLine };
+
+    ghost view = { λ steps. record { joint = steps.joint; steps = steps.items.items } };
+
+    ghost invariant = { λ steps. IsStraightLine steps.joint steps.items.items };
+}
+
+impl Steps {
+    /// The joint words, as the first steps.
+    pub fn new(alloc: Global, joint: u32) -> Result<Steps, Memory>
+        ensures joint { IfOk result (λ line. line.joint ≡ joint) }
+        ensures steps { IfOk result (λ line. line.steps ≡ map (λ word. Step.Joint word) (range_with_len 0 joint)) }
+    {
+        let mut items = Vec::with_capacity(alloc, joint as usize)?;
+        for word in 0..joint {
+            items.push(Step::Joint(word))?;
+        }
+        Ok(Steps {
+            joint,
+            items,
+            seen: HashMap::new(alloc),
+        })
+    }
+
+    /// The number of public values.
+    pub fn len(&self) -> u32
+        ensures { result ≡ length self.now.steps }
+    {
+        self.items.len() as u32
+    }
+
+    /// The number of joint words.
+    pub fn joint_len(&self) -> u32
+        ensures { result ≡ self.now.joint }
+    {
+        self.joint
+    }
+
+    /// The step of this joint word. It takes no memory.
+    pub fn joint(&self, word: u32) -> u32
+        requires { word < self.now.joint }
+        ensures { StandsFor self.now result (λ joint. slice_index joint word) }
+    {
+        let _steps = &self.items;
+        word
+    }
+
+    /// A step of this value.
+    pub fn constant(&mut self, value: Fe) -> Result<u32, Memory>
+        ensures grows { Grows self.old self.new }
+        ensures few { length self.new.steps ≤ length self.old.steps + 1 }
+        ensures value { IfOk result (λ step. StandsFor self.new step (λ _. value)) }
+        ensures err { OnErr result (self.new ≡ self.old) }
+    {
+        self.place(&Step::Constant(value))
+    }
+
+    /// A step of the sum of the values of two steps.
+    pub fn sum(&mut self, left: u32, right: u32) -> Result<u32, Memory>
+        requires left { left < length self.old.steps }
+        requires right { right < length self.old.steps }
+        ensures grows { Grows self.old self.new }
+        ensures few { length self.new.steps ≤ length self.old.steps + 1 }
+        ensures value { IfOk result (λ step. StandsFor self.new step (λ joint. public_at self.old.steps left joint + public_at self.old.steps right joint)) }
+        ensures err { OnErr result (self.new ≡ self.old) }
+    {
+        self.place(&Step::Sum(left, right))
+    }
+
+    /// A step of the product of the values of two steps.
+    pub fn product(&mut self, left: u32, right: u32) -> Result<u32, Memory>
+        requires left { left < length self.old.steps }
+        requires right { right < length self.old.steps }
+        ensures grows { Grows self.old self.new }
+        ensures few { length self.new.steps ≤ length self.old.steps + 1 }
+        ensures value { IfOk result (λ step. StandsFor self.new step (λ joint. public_at self.old.steps left joint * public_at self.old.steps right joint)) }
+        ensures err { OnErr result (self.new ≡ self.old) }
+    {
+        self.place(&Step::Product(left, right))
+    }
+
+    /// A step of the value of a step to a power, which is 1 where the exponent is 0.
+    ///
+    /// It takes at most two products for each binary digit of the exponent, and one where the power with half
+    /// the exponent, or with the exponent less one, is there. After want of memory there may be new steps.
+    pub fn power(&mut self, base: u32, exponent: u64) -> Result<u32, Memory>
+        requires { base < length self.old.steps }
+        ensures grows { Grows self.old self.new }
+        ensures few { length self.new.steps ≤ length self.old.steps + 128 }
+        ensures value { IfOk result (λ step. StandsFor self.new step (λ joint. public_at self.old.steps base joint ^ exponent)) }
+    {
+        if exponent == 0 {
+            return self.constant(Fe::ONE);
+        }
+        self.raised(base, exponent)
+    }
+
+    /// Writes the public values under these joint words to `out`, which has as many places as there are steps.
+    pub fn run(&self, joint: &[Fe], out: &mut [Fe])
+        requires words { length joint.now ≡ self.now.joint }
+        requires size { length out.old ≡ length self.now.steps }
+        ensures { out.new ≡ map (λ v. v % modulus) (publics self.now.steps joint.now) }
+    {
+        for (i, step) in self.items.iter().enumerate() {
+            out[i] = value_of(*step, joint, &out[..i]);
+        }
+    }
+
+    /// The power by halves: the square of the power with half the exponent, and one factor more where that is odd.
+    fn raised(&mut self, base: u32, exponent: u64) -> Result<u32, Memory>
+        requires base { base < length self.old.steps }
+        requires some { 0 < exponent }
+        ensures grows { Grows self.old self.new }
+        ensures value { IfOk result (λ step. StandsFor self.new step (λ joint. public_at self.old.steps base joint ^ exponent)) }
+    {
+        if exponent == 1 {
+            return Ok(base);
+        }
+        let half = self.raised(base, exponent / 2)?;
+        let square = self.product(half, half)?;
+        if exponent % 2 == 0 {
+            return Ok(square);
+        }
+        let power = self.product(square, base)?;
+        Ok(power)
+    }
+
+    /// Where this step stands, which is appended if it is not there.
+    fn place(&mut self, step: &Step) -> Result<u32, Memory>
+        requires { StepFits self.old.joint (length self.old.steps) step.now }
+        ensures grows { Grows self.old self.new }
+        ensures few { length self.new.steps ≤ length self.old.steps + 1 }
+        ensures there { IfOk result (λ index. slice_get self.new.steps index ≡ Some step.now) }
+        ensures err { OnErr result (self.new ≡ self.old) }
+    {
+        if let Some(index) = self.place_of(step) {
+            return Ok(index);
+        }
+        let index = self.items.len() as u32;
+        if index == u32::MAX {
+            return Err(Memory);
+        }
+        self.seen.insert(key_of(step), index)?;
+        self.items.push(*step)?;
+        Ok(index)
+    }
+
+    /// Where this step stands, if the table tells.
+    fn place_of(&self, step: &Step) -> Option<u32>
+        ensures { IfSome result (λ index. slice_get self.now.steps index ≡ Some step.now) }
+    {
+        let index = *self.seen.get(&key_of(step))?;
+        let found = self.items.get(index as usize)?;
+        if found == step { Some(index) } else { None }
+    }
+}
+
+/// What the table is asked by.
+fn key_of(step: &Step) -> Key {
+    match step {
+        Step::Constant(word) => Key::Constant(word.value()),
+        Step::Joint(index) => Key::Joint(*index),
+        Step::Sum(left, right) => Key::Sum(*left, *right),
+        Step::Product(left, right) => Key::Product(*left, *right),
+    }
+}

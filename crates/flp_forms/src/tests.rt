@@ -1,0 +1,1 @@
+//! Public values and forms at numbers that were computed by hand.
