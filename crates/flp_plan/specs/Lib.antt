@@ -1,0 +1,11 @@
+-- Compiled circuits, from what contracts see of a plan up to the laws of shares.
+-- a plan as contracts see it, and what its calls answer
+pub mod View
+-- the lengths, and what compiling refuses
+pub mod Counted
+-- the limits that the circuit of a plan keeps
+pub mod Limits
+-- the laws of shares
+pub mod Shares
+-- how the code of a plan stands for its circuit
+pub mod Tied

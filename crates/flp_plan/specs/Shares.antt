@@ -1,0 +1,28 @@
+-- The laws of shares: what a circuit makes of shares adds up to what it makes of their sums. From one share up.
+use Rattle.std.specs.Prelude.{ℕ, ◌<◌, ◌≡◌, List, map}
+use Rattle.flp_field.specs.Sums.{sum_of_lists}
+use Rattle.flp_syntax.specs.Tree.{Program}
+use Rattle.flp_meaning.specs.Meaning.{Reading}
+use Rattle.flp_meaning.specs.Circuit.{answered, checks_of}
+use Rattle.flp_meaning.specs.Gadgets.{arity_of, call_count, call_gadget, check_count}
+use Rattle.flp_forms.specs.LinearForms.{Share}
+use Rattle.flp_forms.specs.Laws.{IsSumOf}
+use Rattle.flp_plan.specs.View.{inputs_of}
+
+-- the circuit read on a share
+abbrev pub reading_on : Share → List ℕ → Reading
+reading_on share joint = answered share.meas joint share.unit share.answers
+
+-- where the words, answers and units of the shares add up modulo p to those of the whole, so do the checks, and so do the inputs of each call
+pub record SharesAddUp (circuit : Program) : Type 0 where
+  pub checks :
+      (joint : List ℕ) (whole : Share) (shares : List Share) → IsSumOf whole shares
+      → checks_of circuit (reading_on whole joint)
+      ≡ sum_of_lists (check_count circuit) (map (λ share. checks_of circuit (reading_on share joint)) shares)
+  pub inputs :
+      (joint : List ℕ) (whole : Share) (shares : List Share) → IsSumOf whole shares
+      → (number : ℕ) → number < call_count circuit
+      → inputs_of circuit (reading_on whole joint) number
+      ≡ sum_of_lists
+      (arity_of circuit (call_gadget circuit number))
+      (map (λ share. inputs_of circuit (reading_on share joint) number) shares)

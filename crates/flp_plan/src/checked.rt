@@ -1,0 +1,18 @@
+//! A circuit that was checked. It stands here until the checker gives it.
+use flp_syntax::Body;
+use std::marker::Model;
+
+/// A circuit that was checked.
+#[derive(Drop)]
+pub struct Checked {
+    pub(crate) body: Body,
+}
+
+impl Model for Checked {
+    ghost use Rattle.flp_syntax.specs.Tree.{Program};
+    ghost use Rattle.flp_syntax.specs.View.{program_of};
+
+    ghost Value = { Program };
+
+    ghost view = { λ checked. program_of checked.body };
+}
