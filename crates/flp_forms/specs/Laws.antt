@@ -1,9 +1,9 @@
 -- The laws of public values and linear forms. From appended steps and terms up to shares.
-use Rattle.std.specs.Prelude.{ℕ, ◌≡◌, ◌+◌, ◌*◌, ◌%◌, ◌<◌, List, ◌++◌, length, map, All, sum_by, slice_index}
+use Rattle.std.specs.Prelude.{ℕ, ◌≡◌, ◌+◌, ◌*◌, ◌%◌, ◌<◌, List, ◌++◌, length, All, sum_by, slice_index}
 use Rattle.flp_field.specs.Word.{modulus}
 use Rattle.flp_forms.specs.declared.step.Step.{Step}
 use Rattle.flp_forms.specs.declared.term.Term.{Term}
-use Rattle.flp_forms.specs.PublicValues.{publics, public_at}
+use Rattle.flp_forms.specs.PublicValues.{public_at, reduced}
 use Rattle.flp_forms.specs.LinearForms.{Share, form_value, TermFits}
 
 -- the value of a step is that before others were appended
@@ -22,7 +22,7 @@ FormsAreAdditive =
 abbrev pub FormsReadReduced : Type 0
 FormsReadReduced =
     (values : List ℕ) (share : Share) (terms : List Term)
-    → form_value (map (λ v. v % modulus) values) share terms % modulus ≡ form_value values share terms % modulus
+    → form_value (reduced values) share terms % modulus ≡ form_value values share terms % modulus
 
 -- each word, each answer and the unit of the whole are the sums of those of the shares, modulo p
 pub record IsSumOf (whole : Share) (shares : List Share) : Type 0 where

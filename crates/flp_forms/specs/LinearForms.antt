@@ -14,6 +14,9 @@ pub record Share : Type 0 where
   pub answers : List ℕ
   pub unit : ℕ
 
+abbrev pub share_of : List ℕ → List ℕ → ℕ → Share
+share_of meas answers unit = record { meas = meas; answers = answers; unit = unit }
+
 -- the coefficient of a term; minus one is p - 1
 abbrev pub scale_value : List ℕ → Scale → ℕ
 scale_value publics One = 1

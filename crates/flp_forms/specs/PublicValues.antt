@@ -1,5 +1,6 @@
 -- Public values by steps, as whole numbers that are not reduced. From one step up.
-use Rattle.std.specs.Prelude.{ℕ, ◌+◌, ◌*◌, ◌<◌, List, [], ◌∷◌, ◌++◌, fold, slice_index}
+use Rattle.std.specs.Prelude.{ℕ, ◌+◌, ◌*◌, ◌%◌, ◌<◌, List, [], ◌∷◌, ◌++◌, fold, map, slice_index}
+use Rattle.flp_field.specs.Word.{modulus}
 use Rattle.flp_forms.specs.declared.step.Step.{Step}
 use Rattle.flp_forms.specs.declared.step.Step.TheVariants.{Constant, Joint, Sum, Product}
 
@@ -17,6 +18,10 @@ publics steps joint = fold (λ earlier step. earlier ++ step_value earlier joint
 -- the value of the step with this number
 abbrev pub public_at : List Step → ℕ → List ℕ → ℕ
 public_at steps index joint = slice_index (publics steps joint) index
+
+-- whole numbers as words: modulo p
+abbrev pub reduced : List ℕ → List ℕ
+reduced values = map (λ value. value % modulus) values
 
 -- a step that stands behind so many others reads them and so many joint words alone
 abbrev pub StepFits : (joint earlier : ℕ) → Step → Type 0

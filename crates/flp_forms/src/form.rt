@@ -1,7 +1,8 @@
 //! The value of a linear form.
-ghost use Rattle.std.specs.Prelude.{◌≡◌, ◌+◌, ◌*◌, ◌%◌, ℕ, List, All, length, map};
+ghost use Rattle.std.specs.Prelude.{◌≡◌, ◌+◌, ◌*◌, ◌%◌, ℕ, List, All, length};
 ghost use Rattle.flp_field.specs.Word.{modulus};
-ghost use Rattle.flp_forms.specs.LinearForms.{form_value, scale_value, source_value, TermFits, ScaleFits, SourceFits};
+ghost use Rattle.flp_forms.specs.PublicValues.{reduced};
+ghost use Rattle.flp_forms.specs.LinearForms.{share_of, form_value, scale_value, source_value, TermFits, ScaleFits, SourceFits};
 
 use crate::term::{Scale, Source, Term};
 use flp_field::Fe;
@@ -13,10 +14,10 @@ use flp_field::Fe;
 /// any other takes one.
 pub fn form_at(terms: &[Term], publics: &[Fe], meas: &[Fe], answers: &[Fe], unit: Fe) -> Fe
     requires { All (TermFits (length publics.now) (length meas.now) (length answers.now)) terms.now }
-    ensures value { result ≡ form_value publics.now (record { meas = meas.now; answers = answers.now; unit = unit }) terms.now % modulus }
+    ensures value { result ≡ form_value publics.now (share_of meas.now answers.now unit) terms.now % modulus }
 
     // Where the public values are those of whole numbers modulo p, so is the form's value.
-    ensures reduced { (values : List ℕ) → publics.now ≡ map (λ v. v % modulus) values → result ≡ form_value values (record { meas = meas.now; answers = answers.now; unit = unit }) terms.now % modulus }
+    ensures reduced { (values : List ℕ) → publics.now ≡ reduced values → result ≡ form_value values (share_of meas.now answers.now unit) terms.now % modulus }
 {
     let mut sum = Fe::ZERO;
     for term in terms {
@@ -29,7 +30,7 @@ pub fn form_at(terms: &[Term], publics: &[Fe], meas: &[Fe], answers: &[Fe], unit
 /// The word that a term reads.
 fn word_at(source: Source, meas: &[Fe], answers: &[Fe], unit: Fe) -> Fe
     requires { SourceFits (length meas.now) (length answers.now) source }
-    ensures { result ≡ source_value (record { meas = meas.now; answers = answers.now; unit = unit }) source }
+    ensures { result ≡ source_value (share_of meas.now answers.now unit) source }
 {
     match source {
         Source::Unit => unit,

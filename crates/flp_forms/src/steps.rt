@@ -1,8 +1,7 @@
 //! Public values in a straight line.
-ghost use Rattle.std.specs.Prelude.{◌≡◌, ℕ, List, ◌+◌, ◌*◌, ◌%◌, ◌^◌, ◌<◌, ◌≤◌, length, map, IfOk, OnErr, IfSome, slice_get, slice_index, Some};
+ghost use Rattle.std.specs.Prelude.{◌≡◌, ℕ, List, ◌+◌, ◌*◌, ◌^◌, ◌<◌, ◌≤◌, length, map, IfOk, OnErr, IfSome, slice_index};
 ghost use Rattle.std.specs.List.{range_with_len};
-ghost use Rattle.flp_field.specs.Word.{modulus};
-ghost use Rattle.flp_forms.specs.PublicValues.{publics, public_at, StepFits};
+ghost use Rattle.flp_forms.specs.PublicValues.{step_value, publics, public_at, reduced, StepFits};
 ghost use Rattle.flp_forms.specs.StraightLine.{Grows, StandsFor};
 
 use crate::Memory;
@@ -140,7 +139,7 @@ impl Steps {
     pub fn run(&self, joint: &[Fe], out: &mut [Fe])
         requires words { length joint.now ≡ self.now.joint }
         requires size { length out.old ≡ length self.now.steps }
-        ensures { out.new ≡ map (λ v. v % modulus) (publics self.now.steps joint.now) }
+        ensures { out.new ≡ reduced (publics self.now.steps joint.now) }
     {
         for (i, step) in self.items.iter().enumerate() {
             out[i] = value_of(*step, joint, &out[..i]);
@@ -152,6 +151,7 @@ impl Steps {
         requires base { base < length self.old.steps }
         requires some { 0 < exponent }
         ensures grows { Grows self.old self.new }
+        ensures few { (digits : ℕ) → exponent < 2 ^ digits → length self.new.steps ≤ length self.old.steps + 2 * digits }
         ensures value { IfOk result (λ step. StandsFor self.new step (λ joint. public_at self.old.steps base joint ^ exponent)) }
     {
         if exponent == 1 {
@@ -171,7 +171,7 @@ impl Steps {
         requires { StepFits self.old.joint (length self.old.steps) step.now }
         ensures grows { Grows self.old self.new }
         ensures few { length self.new.steps ≤ length self.old.steps + 1 }
-        ensures there { IfOk result (λ index. slice_get self.new.steps index ≡ Some step.now) }
+        ensures value { IfOk result (λ index. StandsFor self.new index (λ joint. step_value (publics self.old.steps joint) joint step.now)) }
         ensures err { OnErr result (self.new ≡ self.old) }
     {
         if let Some(index) = self.place_of(step) {
@@ -188,7 +188,7 @@ impl Steps {
 
     /// Where this step stands, if the table tells.
     fn place_of(&self, step: &Step) -> Option<u32>
-        ensures { IfSome result (λ index. slice_get self.now.steps index ≡ Some step.now) }
+        ensures { IfSome result (λ index. StandsFor self.now index (λ joint. step_value (publics self.now.steps joint) joint step.now)) }
     {
         let index = *self.seen.get(&key_of(step))?;
         let found = self.items.get(index as usize)?;
