@@ -49,3 +49,96 @@ form_value-reduced values share (term ∷ terms) =
     ∙ same_add _ (term_value values share term) _ (form_value values share terms)
     (term_value-reduced values share term) (form_value-reduced values share terms)
     ∙ ap (λ (n : ℕ). n % modulus) (sym (form_value-cons values share term terms))
+
+-- ---- sums over shares
+
+sum_by-agree : {X : Type 0} (f g : X → ℕ) (xs : List X) → ((x : X) → f x ≡ g x) → sum_by f xs ≡ sum_by g xs
+sum_by-agree f g [] same = refl
+sum_by-agree f g (x ∷ xs) same =
+    sum_by-cons f x xs ∙ ap₂ (λ (a b : ℕ). a + b) (same x) (sum_by-agree f g xs same) ∙ sym (sum_by-cons g x xs)
+
+sum_by-plus : {X : Type 0} (f g : X → ℕ) (xs : List X) → sum_by (λ x. f x + g x) xs ≡ sum_by f xs + sum_by g xs
+sum_by-plus f g [] = omega arith
+sum_by-plus f g (x ∷ xs) =
+    omega (arith, sum_by-cons (λ y. f y + g y) x xs, sum_by-cons f x xs, sum_by-cons g x xs, sum_by-plus f g xs)
+
+sum_by-times : {X : Type 0} (c : ℕ) (f : X → ℕ) (xs : List X) → sum_by (λ x. c * f x) xs ≡ c * sum_by f xs
+sum_by-times c f [] = omega arith
+sum_by-times c f (x ∷ xs) =
+    let rest : c * sum_by f (x ∷ xs) ≡ c * (f x + sum_by f xs) = ap (λ (n : ℕ). c * n) (sum_by-cons f x xs) in
+    omega (arith, sum_by-cons (λ y. c * f y) x xs, rest, sum_by-times c f xs)
+
+sum_by-zero : {X : Type 0} (xs : List X) → sum_by (λ (x : X). 0) xs ≡ 0
+sum_by-zero [] = refl
+sum_by-zero (x ∷ xs) = omega (arith, sum_by-cons (λ y. 0) x xs, sum_by-zero xs)
+
+source_value-sum : (whole : Share) (shares : List Share) (source : Source) → IsSumOf whole shares
+    → Same (source_value whole source) (sum_by (λ share. source_value share source) shares)
+source_value-sum whole shares ByUnit is_sum = is_sum.unit
+source_value-sum whole shares (Meas index) is_sum = is_sum.meas index
+source_value-sum whole shares (Answer index) is_sum = is_sum.answers index
+
+term_value-sum : (values : List ℕ) (whole : Share) (shares : List Share) (term : Term) → IsSumOf whole shares
+    → Same (term_value values whole term) (sum_by (λ share. term_value values share term) shares)
+term_value-sum values whole shares term is_sum =
+    let scale : ℕ = scale_value values term.scale in
+    same_mul scale scale _ _ refl (source_value-sum whole shares term.source is_sum)
+    ∙ ap (λ (n : ℕ). n % modulus)
+    (sym (sum_by-times scale (λ (share : Share). source_value share term.source) shares))
+
+pub form_value-sum : FormsAddUp
+form_value-sum values whole shares [] is_sum = ap (λ (n : ℕ). n % modulus) (sym (sum_by-zero shares))
+form_value-sum values whole shares (term ∷ terms) is_sum =
+    let parts : sum_by (λ share. form_value values share (term ∷ terms)) shares
+    ≡ sum_by (λ share. term_value values share term) shares + sum_by (λ share. form_value values share terms) shares =
+    sum_by-agree (λ (share : Share). form_value values share (term ∷ terms))
+    (λ (share : Share). term_value values share term + form_value values share terms) shares
+    (λ (share : Share). form_value-cons values share term terms)
+    ∙ sum_by-plus (λ (share : Share). term_value values share term) (λ (share : Share). form_value values share terms)
+    shares in
+    ap (λ (n : ℕ). n % modulus) (form_value-cons values whole term terms)
+    ∙ same_add _ _ _ _ (term_value-sum values whole shares term is_sum) (form_value-sum values whole shares terms is_sum)
+    ∙ ap (λ (n : ℕ). n % modulus) (sym parts)
+
+-- ---- multiples of a share
+
+source_value-multiple : (whole part : Share) (factor : ℕ) (source : Source) → IsMultipleOf whole factor part
+    → Same (source_value whole source) (factor * source_value part source)
+source_value-multiple whole part factor ByUnit multiple = multiple.unit
+source_value-multiple whole part factor (Meas index) multiple = multiple.meas index
+source_value-multiple whole part factor (Answer index) multiple = multiple.answers index
+
+pub form_value-multiple : FormsScale
+form_value-multiple values whole part factor [] multiple =
+    let nothing : 0 ≡ factor * 0 = omega arith in ap (λ (n : ℕ). n % modulus) nothing
+form_value-multiple values whole part factor (term ∷ terms) multiple =
+    let scale : ℕ = scale_value values term.scale in
+    let word : ℕ = source_value part term.source in
+    let rest : ℕ = form_value values part terms in
+    let opened : scale * (factor * word) + factor * rest ≡ factor * (scale * word + rest) = omega arith in
+    let whole_is : factor * (scale * word + rest) ≡ factor * form_value values part (term ∷ terms) =
+    ap (λ (n : ℕ). factor * n) (sym (form_value-cons values part term terms)) in
+    ap (λ (n : ℕ). n % modulus) (form_value-cons values whole term terms)
+    ∙ same_add _ (scale * (factor * word)) _ (factor * rest)
+    (same_mul scale scale _ (factor * word) refl (source_value-multiple whole part factor term.source multiple))
+    (form_value-multiple values whole part factor terms multiple)
+    ∙ ap (λ (n : ℕ). n % modulus) (opened ∙ whole_is)
+
+-- ---- what a form reads
+
+source_value-below : (one two : Share) (words calls : ℕ) (source : Source) → SameBelow words calls one two
+    → SourceFits words calls source → source_value one source ≡ source_value two source
+source_value-below one two words calls ByUnit same fits = same.unit
+source_value-below one two words calls (Meas index) same fits = same.meas index fits
+source_value-below one two words calls (Answer index) same fits = same.answers index fits
+
+pub form_value-below : FormsReadEarlier
+form_value-below values one two publics words calls [] same fits = refl
+form_value-below values one two publics words calls (term ∷ terms) same fits =
+    let first : TermFits publics words calls term = All-head (TermFits publics words calls) term terms fits in
+    form_value-cons values one term terms
+    ∙ ap₂ (λ (a b : ℕ). scale_value values term.scale * a + b)
+    (source_value-below one two words calls term.source same first.source)
+    (form_value-below values one two publics words calls terms same
+    (All-tail (TermFits publics words calls) term terms fits))
+    ∙ sym (form_value-cons values two term terms)

@@ -5,3 +5,5 @@ pub mod PublicLemmas
 pub mod LineLemmas
 -- values of forms
 pub mod FormLemmas
+-- forms in one array
+pub mod SpanLemmas

@@ -1,13 +1,21 @@
 -- What a step stands for, and how that stays while the line grows. From the relation of growth up.
-use Rattle.std.proofs.Common.{ℕ, suc, ◌≡◌, ◌+◌, ◌*◌, ◌<◌, ◌≤◌, ◌^◌, List, [], ◌∷◌, ◌++◌, length, get_or, refl, ap, ap₂, sym, subst, ◌∙◌, arith, Some, length-append}
+use Rattle.std.proofs.Common.{ℕ, zero, suc, ◌≡◌, ◌+◌, ◌*◌, ◌<◌, ◌≤◌, ◌^◌, ◌/◌, ◌%◌, List, [], ◌∷◌, ◌++◌, length, get_or, map, refl, ap, ap₂, sym, subst, ◌∙◌, arith, Some, length-append}
 use Rattle.std.specs.Prelude.{slice_get, slice_index}
+use Rattle.std.specs.List.{range_with_len}
+use Rattle.std.proofs.Math.Nat.{pow-suc, pow-zero}
+use Rattle.std.proofs.lemmas.Nat.{pow-add}
 use Rattle.std.proofs.lemmas.List.{append-nil, append_assoc, get_or_push, length_push}
-use Rattle.std.proofs.lemmas.Option.{slice_get_within}
+use Rattle.std.proofs.lemmas.List.FromFn.{length-map-range_with_len, get_or-map-range_with_len}
+use Rattle.std.proofs.lemmas.Option.{slice_get_within, slice_get-get_or}
+use Rattle.flp_field.proofs.Powers.{pow-one}
 use Rattle.flp_forms.specs.declared.step.Step.{Step}
 use Rattle.flp_forms.specs.declared.step.Step.TheVariants.{Joint}
-use Rattle.flp_forms.specs.PublicValues.{step_value, publics, public_at}
+use Rattle.flp_forms.specs.PublicValues.{step_value, publics, public_at, StepFits}
 use Rattle.flp_forms.specs.StraightLine.{StraightLine, IsStraightLine, Grows, StandsFor}
 use Rattle.flp_forms.proofs.PublicLemmas.{length-publics, publics-push, publics_kept, public_at-step}
+
+some_same : (one two : Step) → Some one ≡ Some two → one ≡ two
+some_same one two e = cc
 
 pub grows_refl : (line : StraightLine) → Grows line line
 grows_refl line = record { joint = refl; front = ([], sym (append-nil line.steps)) }
@@ -15,9 +23,10 @@ grows_refl line = record { joint = refl; front = ([], sym (append-nil line.steps
 pub grows_trans : (one two three : StraightLine) → Grows one two → Grows two three → Grows one three
 grows_trans one two three g h = record {
   joint = h.joint ∙ g.joint;
-  front =
-      (g.front.0 ++ h.front.0,
-      h.front.1 ∙ ap (λ (steps : List Step). steps ++ h.front.0) g.front.1 ∙ append_assoc one.steps g.front.0 h.front.0);
+  front = (
+    g.front.0 ++ h.front.0,
+    h.front.1 ∙ ap (λ (steps : List Step). steps ++ h.front.0) g.front.1 ∙ append_assoc one.steps g.front.0 h.front.0,
+  );
 }
 
 pub length-grows : (one two : StraightLine) → Grows one two → length one.steps ≤ length two.steps
@@ -59,15 +68,92 @@ pub stands_joint : (line : StraightLine) (word : ℕ) → IsStraightLine line.jo
 stands_joint line word straight below = stands_there line word (Joint word) straight (straight.begins word below)
 
 -- a step that was appended stands for its value by the earlier ones
-pub stands_pushed : (words : ℕ) (steps more : List Step) (step : Step) → more ≡ steps ++ step ∷ []
-    → StandsFor (record { joint = words; steps = more }) (length steps)
-    (λ joint. step_value (publics steps joint) joint step)
-stands_pushed words steps more step pushed = record {
+pub stands_pushed : (words index : ℕ) (old steps more : List Step) (step : Step) → steps ≡ old
+    → more ≡ steps ++ step ∷ [] → index ≡ length steps
+    → StandsFor (record { joint = words; steps = more }) index (λ joint. step_value (publics old joint) joint step)
+stands_pushed words index old steps more step same pushed at_end = record {
   within = omega (arith, ap (λ (s : List Step). length s) pushed, length_push steps step);
   value =
       λ joint.
-      ap (λ (s : List Step). get_or (publics s joint) (length steps) 0) pushed
-      ∙ ap (λ (xs : List ℕ). get_or xs (length steps) 0) (publics-push steps step joint)
-      ∙ get_or_push (publics steps joint) (step_value (publics steps joint) joint step) 0 (length steps)
-      (length-publics steps joint);
+      ap (λ (s : List Step). get_or (publics s joint) index 0) pushed
+      ∙ ap (λ (xs : List ℕ). get_or xs index 0) (publics-push steps step joint)
+      ∙ get_or_push (publics steps joint) (step_value (publics steps joint) joint step) 0 index
+      (length-publics steps joint ∙ sym at_end)
+      ∙ ap (λ (s : List Step). step_value (publics s joint) joint step) same;
 }
+
+-- ---- powers
+
+-- the first power of a step is the step
+pub stands_first : (line : StraightLine) (step exponent : ℕ) → step < length line.steps → exponent ≡ 1
+    → StandsFor line step (λ joint. public_at line.steps step joint ^ exponent)
+stands_first line step exponent within one = record {
+  within = within;
+  value =
+      λ joint.
+      sym (ap (λ (e : ℕ). public_at line.steps step joint ^ e) one ∙ pow-one (public_at line.steps step joint));
+}
+
+-- the square of the power with half the exponent
+pub stands_square : (one two : StraightLine) (half square exponent : ℕ) (number : List ℕ → ℕ)
+    → StandsFor one half (λ joint. number joint ^ (exponent / 2))
+    → StandsFor two square (λ joint. public_at one.steps half joint * public_at one.steps half joint)
+    → StandsFor two square (λ joint. number joint ^ (exponent / 2 + exponent / 2))
+stands_square one two half square exponent number h s =
+    stands_same two square _ (λ joint. number joint ^ (exponent / 2 + exponent / 2))
+    (λ (joint : List ℕ).
+    ap (λ (n : ℕ). n * n) (h.value joint) ∙ sym (pow-add (number joint) (exponent / 2) (exponent / 2))) s
+
+pub stands_even : (line : StraightLine) (square exponent : ℕ) (number : List ℕ → ℕ) → exponent % 2 ≡ 0
+    → StandsFor line square (λ joint. number joint ^ (exponent / 2 + exponent / 2))
+    → StandsFor line square (λ joint. number joint ^ exponent)
+stands_even line square exponent number even s =
+    let halves : exponent / 2 + exponent / 2 ≡ exponent = omega arith in
+    stands_same line square _ (λ joint. number joint ^ exponent)
+    (λ (joint : List ℕ). ap (λ (e : ℕ). number joint ^ e) halves) s
+
+-- one factor more where the exponent is odd
+pub stands_odd : (old two three : StraightLine) (base square power exponent : ℕ) → base < length old.steps
+    → Grows old two → (exponent % 2 ≡ 0 → ⊥)
+    → StandsFor two square (λ joint. public_at old.steps base joint ^ (exponent / 2 + exponent / 2))
+    → StandsFor three power (λ joint. public_at two.steps square joint * public_at two.steps base joint)
+    → StandsFor three power (λ joint. public_at old.steps base joint ^ exponent)
+stands_odd old two three base square power exponent within grows odd s p =
+    let halves : exponent ≡ suc (exponent / 2 + exponent / 2) = omega arith in
+    stands_same three power _ (λ joint. public_at old.steps base joint ^ exponent)
+    (λ (joint : List ℕ).
+    ap₂ (λ (a b : ℕ). a * b) (s.value joint) (public_at-grows old two base joint grows within)
+    ∙ sym (ap (λ (e : ℕ). public_at old.steps base joint ^ e) halves
+    ∙ pow-suc (public_at old.steps base joint) (exponent / 2 + exponent / 2))) p
+
+-- a digit of the exponent more takes two steps at most
+pub few_turn : (old mid new exponent : ℕ) → 1 < exponent
+    → ((digits : ℕ) → exponent / 2 < 2 ^ digits → mid ≤ old + 2 * digits) → new ≤ mid + 2 → (digits : ℕ)
+    → exponent < 2 ^ digits → new ≤ old + 2 * digits
+few_turn old mid new exponent some half more zero below = absurd (omega (arith, pow-zero 2))
+few_turn old mid new exponent some half more (suc digits) below =
+    omega (arith, half digits (omega (arith, pow-suc 2 digits)))
+
+-- ---- the joint words
+
+-- the steps of the joint words alone
+pub joint_words_straight : (words word : ℕ) (steps : List Step) → words < 2 ^ 32 → word ≡ words
+    → steps ≡ map (λ k. Joint k) (range_with_len 0 word) → IsStraightLine words steps
+joint_words_straight words word steps few done same =
+    let all : steps ≡ map (λ k. Joint k) (range_with_len 0 words) =
+    same ∙ ap (λ (n : ℕ). map (λ (k : ℕ). Joint k) (range_with_len 0 n)) done in
+    let size : length steps ≡ words =
+    ap (λ (s : List Step). length s) all ∙ length-map-range_with_len (λ (k : ℕ). Joint k) 0 words in
+    let at = λ (k : ℕ) (below : k < words).
+    ap (λ (s : List Step). slice_get s k) all ∙ slice_get-get_or (map (λ (j : ℕ). Joint j) (range_with_len 0 words)) k (Joint k)
+    (omega (arith, length-map-range_with_len (λ (j : ℕ). Joint j) 0 words))
+    ∙ ap (λ (s : Step). Some s) (get_or-map-range_with_len (λ (j : ℕ). Joint j) 0 words k k (Joint k) below (omega arith)) in
+    record {
+      begins = at;
+      reads_earlier =
+          λ k step there.
+          let below : k < words = omega (arith, slice_get_within steps k step there) in
+          let here : step ≡ Joint k = some_same step (Joint k) (sym there ∙ at k below) in
+          subst (λ (s : Step). StepFits words k s) (sym here) below;
+      few = omega arith;
+    }

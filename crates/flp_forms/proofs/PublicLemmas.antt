@@ -19,8 +19,11 @@ pub length-values_from : (earlier : List ℕ) (steps : List Step) (joint : List 
     → length (values_from earlier steps joint) ≡ length earlier + length steps
 length-values_from earlier [] joint = omega arith
 length-values_from earlier (step ∷ steps) joint =
-    omega (arith, length-values_from (earlier ++ step_value earlier joint step ∷ []) steps joint,
-    length_push earlier (step_value earlier joint step))
+    omega (
+      arith,
+      length-values_from (earlier ++ step_value earlier joint step ∷ []) steps joint,
+      length_push earlier (step_value earlier joint step),
+    )
 
 pub length-publics : (steps : List Step) (joint : List ℕ) → length (publics steps joint) ≡ length steps
 length-publics steps joint = omega (arith, length-values_from [] steps joint)
@@ -112,7 +115,7 @@ run_turn steps joint out i v step within room read done value =
     let now : v ≡ step_value earlier joint step % modulus =
     value ∙ ap (λ (xs : List ℕ). step_value xs joint step % modulus) done ∙ step_value-reduced earlier joint step in
     let grown : reduced (publics (take (i + 1) steps) joint)
-        ≡ reduced earlier ++ step_value earlier joint step % modulus ∷ [] =
+    ≡ reduced earlier ++ step_value earlier joint step % modulus ∷ [] =
     ap (λ (s : List Step). reduced (publics s joint)) more
     ∙ ap reduced (publics-push (take i steps) step joint)
     ∙ map_push (λ (n : ℕ). n % modulus) earlier (step_value earlier joint step) in
