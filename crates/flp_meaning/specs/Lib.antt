@@ -15,3 +15,5 @@ pub mod Wires
 pub mod Proof
 -- the verifier, and the decision
 pub mod Verifier
+-- the laws of what circuits mean
+pub mod MeaningLaws

@@ -69,7 +69,7 @@ abbrev pub called : Reading → ℕ → Run (List ℕ) → Run ℕ
 called reading gadget arguments made =
     record {
       value =
-        reading.answer (made + length (arguments made).calls) (record { gadget = gadget; inputs = (arguments made).value });
+          reading.answer (made + length (arguments made).calls) (record { gadget = gadget; inputs = (arguments made).value });
       calls = (arguments made).calls ++ record { gadget = gadget; inputs = (arguments made).value } ∷ [];
     }
 
@@ -93,8 +93,8 @@ abbrev mutual
   meaning gadgets reading scope (sum at name from to inner) =
       total
       (map
-       (λ turn. meaning gadgets reading (inside scope name turn) inner)
-       (turns (index_value scope from) (index_value scope to)))
+      (λ turn. meaning gadgets reading (inside scope name turn) inner)
+      (turns (index_value scope from) (index_value scope to)))
   meaning gadgets reading scope (call at name args) =
       called reading (unwrap_or (gadget_number gadgets name) 0) (listed (arguments_of gadgets reading scope args))
   meaning gadgets reading scope (add at items) = total (items_of gadgets reading scope (has_shared_item items) items)
@@ -109,8 +109,8 @@ abbrev mutual
       changed
       (signed minus)
       (if mixed
-       then counted reading (is_shared expr) (meaning gadgets reading scope expr)
-       else meaning gadgets reading scope expr)
+      then counted reading (is_shared expr) (meaning gadgets reading scope expr)
+      else meaning gadgets reading scope expr)
       ∷ items_of gadgets reading scope mixed more
 
   -- the factors of a product
@@ -128,8 +128,8 @@ abbrev mutual
   argument_of gadgets reading scope (each_arg at name from to inner) =
       listed
       (map
-       (λ turn. listed (arguments_of gadgets reading (inside scope name turn) inner))
-       (turns (index_value scope from) (index_value scope to)))
+      (λ turn. listed (arguments_of gadgets reading (inside scope name turn) inner))
+      (turns (index_value scope from) (index_value scope to)))
 
   pub arguments_of : List Declaration → Reading → Scope → Arguments → List (Run (List ℕ))
   arguments_of gadgets reading scope no_args = []
@@ -166,8 +166,8 @@ abbrev mutual
   statement_of gadgets reading scope (each at name from to inner) =
       performed
       (map
-       (λ turn. performed (statements_of gadgets reading (inside scope name turn) inner))
-       (turns (index_value scope from) (index_value scope to)))
+      (λ turn. performed (statements_of gadgets reading (inside scope name turn) inner))
+      (turns (index_value scope from) (index_value scope to)))
 
   pub statements_of : List Declaration → Reading → Scope → Statements → List (Run Results)
   statements_of gadgets reading scope no_stmts = []

@@ -36,8 +36,8 @@ abbrev pub honest_part : Program → (x joint seeds : List ℕ) → ℕ → List
 honest_part body x joint seeds gadget =
     seeds_for body seeds gadget
     ++ formula_of
-       (kind_of body gadget)
-       (wires_of body (calls_of body (direct body x joint)) (seeds_for body seeds gadget) gadget)
+    (kind_of body gadget)
+    (wires_of body (calls_of body (direct body x joint)) (seeds_for body seeds gadget) gadget)
 
 abbrev pub honest_proof : Program → (x joint seeds : List ℕ) → List ℕ
 honest_proof body x joint seeds = flat_map (honest_part body x joint seeds) (gadgets_of body)

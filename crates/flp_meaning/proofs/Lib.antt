@@ -1,0 +1,6 @@
+-- one circuit under two readings, part by part
+pub mod PartByPart
+-- which values and calls the answers decide
+pub mod Answers
+-- what no reading changes
+pub mod Fixed
