@@ -1,0 +1,5 @@
+-- What the compiler's core promises: which circuits it takes, and what the code that it makes is.
+-- circuits in which nothing is out of range and every form is linear
+pub mod Fitting
+-- the code of a circuit
+pub mod Code

@@ -1,0 +1,15 @@
+//! The compiler's core: from a circuit to public values in a straight line and linear forms over them.
+//!
+//! [`emit`] unrolls the loops of a circuit. Each public expression becomes a step of a straight line, each check, out
+//! and input of a call a linear form over the words of an encoding, the answers of earlier calls and the unit. Under
+//! all joint words and on every share the values of these forms are those that the circuit means when its calls are
+//! answered by a list (`specs/Code.antt`).
+#![tactic(auto)]
+
+mod body;
+mod code;
+
+pub use body::emit;
+pub use code::{CallForms, Code};
+/// Want of memory.
+pub use std::alloc::AllocError as Memory;
