@@ -1,4 +1,6 @@
 -- Compiled circuits, from what contracts see of a plan up to the laws of shares.
+-- circuits are data
+pub mod Codes
 -- a plan as contracts see it, and what its calls answer
 pub mod View
 -- the lengths, and what compiling refuses
@@ -7,5 +9,7 @@ pub mod Counted
 pub mod Limits
 -- the laws of shares
 pub mod Shares
--- how the code of a plan stands for its circuit
-pub mod Tied
+-- what a plan keeps
+pub mod Plan
+-- what every checked circuit keeps
+pub mod Keeps

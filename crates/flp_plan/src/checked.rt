@@ -11,8 +11,11 @@ pub struct Checked {
 impl Model for Checked {
     ghost use Rattle.flp_syntax.specs.Tree.{Program};
     ghost use Rattle.flp_syntax.specs.View.{program_of};
+    ghost use Rattle.flp_plan.specs.Codes.{coded_circuit};
 
     ghost Value = { Program };
+
+    ghost coded = { coded_circuit };
 
     ghost view = { λ checked. program_of checked.body };
 }

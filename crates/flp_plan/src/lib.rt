@@ -17,7 +17,6 @@
 #![tactic(auto)]
 
 mod checked;
-mod code;
 mod compiler;
 mod fault;
 pub mod laws;

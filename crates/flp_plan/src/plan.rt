@@ -6,8 +6,8 @@ ghost use Rattle.flp_plan.specs.Counted.{lengths_of};
 ghost use Rattle.flp_plan.specs.View.{publics_of, HasInputs};
 
 use crate::checked::Checked;
-use crate::code::Code;
 use crate::lengths::Lengths;
+use flp_emit::Code;
 use flp_field::Fe;
 use flp_forms::form_at;
 use flp_gadget::Kind;
@@ -38,10 +38,14 @@ pub struct Plan {
 
 impl Model for Plan {
     ghost use Rattle.std.specs.Prelude.{◌≡◌};
+    ghost use Rattle.std.specs.Coded.{codes};
+    ghost use Rattle.flp_plan.specs.Codes.{coded_circuit};
     ghost use Rattle.flp_plan.specs.View.{Compiled};
-    ghost use Rattle.flp_plan.specs.Tied.{IsPlanOf};
+    ghost use Rattle.flp_plan.specs.Plan.{IsPlanOf};
 
     ghost Value = { Compiled };
+
+    ghost coded = { Prim.hlevel (codes, coded_circuit) };
 
     ghost view = { λ plan. record { circuit = plan.checked; steps = plan.code.steps.steps } };
 
@@ -114,7 +118,7 @@ impl Plan {
         requires { call < call_count self.now.circuit }
         ensures { result ≡ call_gadget self.now.circuit call }
     {
-        self.code.calls[call as usize].gadget
+        self.code.calls.as_slice()[call as usize].gadget
     }
 
     /// The number of this call among the calls of its gadget, from 1.
@@ -157,7 +161,7 @@ impl Plan {
         // They are the inputs also where the answers of this call and of later ones are others.
         ensures earlier { (joint others : List ℕ) → publics.now ≡ publics_of self.now joint → take call others ≡ take call answers.now → HasInputs self.now.circuit (answered x.now joint unit others) call out.new }
     {
-        let first = self.code.calls[call as usize].first as usize;
+        let first = self.code.calls.as_slice()[call as usize].first as usize;
         for (i, input) in out.iter_mut().enumerate() {
             *input = form_at(self.code.inputs.at(first + i), publics, x, answers, unit);
         }
