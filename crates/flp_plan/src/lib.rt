@@ -18,6 +18,7 @@
 
 mod checked;
 mod compiler;
+mod evaluate;
 mod fault;
 pub mod laws;
 mod lengths;

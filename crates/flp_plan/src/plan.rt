@@ -6,6 +6,7 @@ ghost use Rattle.flp_plan.specs.Counted.{lengths_of};
 ghost use Rattle.flp_plan.specs.View.{publics_of, HasInputs};
 
 use crate::checked::Checked;
+use crate::evaluate::write_values;
 use crate::lengths::Lengths;
 use flp_emit::Code;
 use flp_field::Fe;
@@ -161,10 +162,16 @@ impl Plan {
         // They are the inputs also where the answers of this call and of later ones are others.
         ensures earlier { (joint others : List ℕ) → publics.now ≡ publics_of self.now joint → take call others ≡ take call answers.now → HasInputs self.now.circuit (answered x.now joint unit others) call out.new }
     {
-        let first = self.code.calls.as_slice()[call as usize].first as usize;
-        for (i, input) in out.iter_mut().enumerate() {
-            *input = form_at(self.code.inputs.at(first + i), publics, x, answers, unit);
-        }
+        let call = self.code.calls.as_slice()[call as usize];
+        write_values(
+            &self.code.inputs,
+            call.first,
+            publics,
+            x,
+            answers,
+            unit,
+            out,
+        );
     }
 
     /// The value of a check, with the slices and the unit as for [`Plan::inputs`].
