@@ -1,2 +1,3 @@
 pub mod FormLemmas
+pub mod SharesLemmas
 pub mod TiedLemmas
