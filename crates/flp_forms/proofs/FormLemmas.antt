@@ -1,19 +1,20 @@
 -- Values of forms: additive in the terms, modulo p in the public values, linear in the words. From a term up.
-use Rattle.std.proofs.Common.{ℕ, ◌≡◌, ◌+◌, ◌-◌, ◌*◌, ◌%◌, ◌<◌, List, [], ◌∷◌, ◌++◌, length, get_or, map, refl, ap, ap₂, sym, ◌∙◌, arith}
+use Rattle.std.proofs.Common.{ℕ, ◌≡◌, ◌+◌, ◌-◌, ◌*◌, ◌%◌, ◌<◌, ◌≤◌, List, [], ◌∷◌, ◌++◌, length, get_or, map, refl, ap, ap₂, sym, ◌∙◌, arith}
 use Rattle.std.specs.Prelude.{All, sum_by}
 use Rattle.std.proofs.lemmas.List.Sums.{sum_by-append, sum_by-cons}
-use Rattle.std.proofs.lemmas.List.Elements.{All-head, All-tail}
+use Rattle.std.proofs.lemmas.List.Elements.{All-head, All-tail, All-weaker}
 use Rattle.flp_field.specs.Word.{modulus}
 use Rattle.flp_field.proofs.Congruence.{Same, same_add, same_mul, same_mod}
+use Rattle.flp_forms.specs.declared.step.Step.{Step}
 use Rattle.flp_forms.specs.declared.term.Term.{Term}
 use Rattle.flp_forms.specs.declared.term.Scale.{Scale}
 use Rattle.flp_forms.specs.declared.term.Scale.TheVariants.{One, MinusOne, Value}
 use Rattle.flp_forms.specs.declared.term.Source.{Source}
 use Rattle.flp_forms.specs.declared.term.Source.TheVariants.{Unit as ByUnit, Meas, Answer}
-use Rattle.flp_forms.specs.PublicValues.{reduced}
-use Rattle.flp_forms.specs.LinearForms.{Share, scale_value, source_value, term_value, form_value, SourceFits, TermFits}
-use Rattle.flp_forms.specs.Laws.{FormsAreAdditive, FormsReadReduced, IsSumOf, FormsAddUp, IsMultipleOf, FormsScale, SameBelow, FormsReadEarlier}
-use Rattle.flp_forms.proofs.PublicLemmas.{get_or-reduced}
+use Rattle.flp_forms.specs.PublicValues.{publics, reduced}
+use Rattle.flp_forms.specs.LinearForms.{Share, scale_value, source_value, term_value, form_value, ScaleFits, SourceFits, TermFits}
+use Rattle.flp_forms.specs.Laws.{FormsAreKept, FormsAreAdditive, FormsReadReduced, IsSumOf, FormsAddUp, IsMultipleOf, FormsScale, SameBelow, FormsReadEarlier}
+use Rattle.flp_forms.proofs.PublicLemmas.{publics_kept, get_or-reduced}
 
 pub form_value-append : FormsAreAdditive
 form_value-append values share terms more = sum_by-append (term_value values share) terms more
@@ -142,3 +143,43 @@ form_value-below values one two publics words calls (term ∷ terms) same fits =
     (form_value-below values one two publics words calls terms same
     (All-tail (TermFits publics words calls) term terms fits))
     ∙ sym (form_value-cons values two term terms)
+
+scale_value-kept : (steps more : List Step) (joint : List ℕ) (scale : Scale) → ScaleFits (length steps) scale
+    → scale_value (publics (steps ++ more) joint) scale ≡ scale_value (publics steps joint) scale
+scale_value-kept steps more joint One fits = refl
+scale_value-kept steps more joint MinusOne fits = refl
+scale_value-kept steps more joint (Value index) fits = publics_kept steps more joint index fits
+
+pub form_value-kept : FormsAreKept
+form_value-kept steps more joint share words calls [] fits = refl
+form_value-kept steps more joint share words calls (term ∷ terms) fits =
+    let first : TermFits (length steps) words calls term =
+    All-head (TermFits (length steps) words calls) term terms fits in
+    form_value-cons (publics (steps ++ more) joint) share term terms
+    ∙ ap₂ (λ (a b : ℕ). a * source_value share term.source + b) (scale_value-kept steps more joint term.scale first.scale)
+    (form_value-kept steps more joint share words calls terms
+    (All-tail (TermFits (length steps) words calls) term terms fits))
+    ∙ sym (form_value-cons (publics steps joint) share term terms)
+
+-- ---- with more public values, words and answers a term still reads what is there
+
+scale_fits_more : (publics more : ℕ) (scale : Scale) → publics ≤ more → ScaleFits publics scale → ScaleFits more scale
+scale_fits_more publics more One le fits = tt
+scale_fits_more publics more MinusOne le fits = tt
+scale_fits_more publics more (Value index) le fits = omega arith
+
+source_fits_more : (words calls words' calls' : ℕ) (source : Source) → words ≤ words' → calls ≤ calls'
+    → SourceFits words calls source → SourceFits words' calls' source
+source_fits_more words calls words' calls' ByUnit w c fits = tt
+source_fits_more words calls words' calls' (Meas index) w c fits = omega arith
+source_fits_more words calls words' calls' (Answer index) w c fits = omega arith
+
+pub fits_more : (publics words calls publics' words' calls' : ℕ) (terms : List Term) → publics ≤ publics'
+    → words ≤ words' → calls ≤ calls' → All (TermFits publics words calls) terms
+    → All (TermFits publics' words' calls') terms
+fits_more publics words calls publics' words' calls' terms p w c =
+    All-weaker (TermFits publics words calls) (TermFits publics' words' calls')
+    (λ (term : Term) (fits : TermFits publics words calls term). record {
+      scale = scale_fits_more publics publics' term.scale p fits.scale;
+      source = source_fits_more words calls words' calls' term.source w c fits.source;
+    }) terms

@@ -6,12 +6,15 @@ use Rattle.std.proofs.Math.Nat.{pow-suc, pow-zero}
 use Rattle.std.proofs.lemmas.Nat.{pow-add}
 use Rattle.std.proofs.lemmas.List.{append-nil, append_assoc, get_or_push, length_push}
 use Rattle.std.proofs.lemmas.List.FromFn.{length-map-range_with_len, get_or-map-range_with_len}
-use Rattle.std.proofs.lemmas.Option.{slice_get_within, slice_get-get_or}
+use Rattle.std.proofs.lemmas.Option.{slice_get_within, slice_get-get_or, slice_get_read}
 use Rattle.flp_field.proofs.Powers.{pow-one}
 use Rattle.flp_forms.specs.declared.step.Step.{Step}
-use Rattle.flp_forms.specs.declared.step.Step.TheVariants.{Joint}
+use Rattle.flp_forms.specs.declared.step.Step.TheVariants.{Constant, Joint}
+use Rattle.flp_forms.specs.declared.term.Scale.{Scale}
+use Rattle.flp_forms.specs.declared.term.Scale.TheVariants.{One, MinusOne, Value}
 use Rattle.flp_forms.specs.PublicValues.{step_value, publics, public_at, StepFits}
-use Rattle.flp_forms.specs.StraightLine.{StraightLine, IsStraightLine, Grows, StandsFor}
+use Rattle.flp_forms.specs.StraightLine.{StraightLine, IsStraightLine, Grows, StandsFor, ScalesBy}
+use Rattle.flp_forms.specs.LinearForms.{scale_value, ScaleFits}
 use Rattle.flp_forms.proofs.PublicLemmas.{length-publics, publics-push, publics_kept, public_at-step}
 
 some_same : (one two : Step) → Some one ≡ Some two → one ≡ two
@@ -157,3 +160,41 @@ joint_words_straight words word steps few done same =
           subst (λ (s : Step). StepFits words k s) (sym here) below;
       few = omega arith;
     }
+
+-- ---- coefficients
+
+-- a constant that is there is its step's value
+pub public_at-constant : (line inside : StraightLine) (step word : ℕ) (read : Step) → inside ≡ line
+    → IsStraightLine inside.joint inside.steps → step < length line.steps → read ≡ get_or inside.steps step read
+    → read ≡ Constant word → (joint : List ℕ) → public_at line.steps step joint ≡ word
+public_at-constant line inside step word read same straight within at is joint =
+    let size : length inside.steps ≡ length line.steps = ap (λ (l : StraightLine). length l.steps) same in
+    let there : slice_get inside.steps step ≡ Some (Constant word) =
+    slice_get_read inside.steps (length inside.steps) step read refl (omega arith) at ∙ ap (λ (s : Step). Some s) is in
+    ap (λ (l : StraightLine). public_at l.steps step joint) (sym same)
+    ∙ (stands_there inside step (Constant word) straight there).value joint
+
+scale_value-grows : (one two : StraightLine) (scale : Scale) (joint : List ℕ) → Grows one two
+    → ScaleFits (length one.steps) scale
+    → scale_value (publics two.steps joint) scale ≡ scale_value (publics one.steps joint) scale
+scale_value-grows one two One joint grows fits = refl
+scale_value-grows one two MinusOne joint grows fits = refl
+scale_value-grows one two (Value step) joint grows fits = public_at-grows one two step joint grows fits
+
+-- the product of two steps that stand for two coefficients is their product
+pub scales_product : (old one two three : StraightLine) (left right : Scale) (first second product : ℕ)
+    → ScaleFits (length old.steps) right → Grows old one → Grows one two
+    → StandsFor one first (λ joint. scale_value (publics old.steps joint) left)
+    → StandsFor two second (λ joint. scale_value (publics one.steps joint) right)
+    → StandsFor three product (λ joint. public_at two.steps first joint * public_at two.steps second joint)
+    → ScalesBy three (Value product)
+    (λ joint. scale_value (publics old.steps joint) left * scale_value (publics old.steps joint) right)
+scales_product old one two three left right first second product fits grows grows' f s p = record {
+  fits = p.within;
+  value =
+      λ joint.
+      p.value joint
+      ∙ ap₂ (λ (a b : ℕ). a * b)
+      (public_at-grows one two first joint grows' f.within ∙ f.value joint)
+      (s.value joint ∙ scale_value-grows old one right joint grows fits);
+}

@@ -3,7 +3,7 @@ use Rattle.std.specs.Prelude.{ℕ, ◌≡◌, ◌+◌, ◌*◌, ◌%◌, ◌<◌
 use Rattle.flp_field.specs.Word.{modulus}
 use Rattle.flp_forms.specs.declared.step.Step.{Step}
 use Rattle.flp_forms.specs.declared.term.Term.{Term}
-use Rattle.flp_forms.specs.PublicValues.{public_at, reduced}
+use Rattle.flp_forms.specs.PublicValues.{publics, public_at, reduced}
 use Rattle.flp_forms.specs.LinearForms.{Share, form_value, TermFits}
 
 -- the value of a step is that before others were appended
@@ -17,6 +17,13 @@ abbrev pub FormsAreAdditive : Type 0
 FormsAreAdditive =
     (values : List ℕ) (share : Share) (terms more : List Term)
     → form_value values share (terms ++ more) ≡ form_value values share terms + form_value values share more
+
+-- a form whose terms read steps that are there has the same value when others were appended
+abbrev pub FormsAreKept : Type 0
+FormsAreKept =
+    (steps more : List Step) (joint : List ℕ) (share : Share) (words calls : ℕ) (terms : List Term)
+    → All (TermFits (length steps) words calls) terms
+    → form_value (publics (steps ++ more) joint) share terms ≡ form_value (publics steps joint) share terms
 
 -- public values may be taken modulo p
 abbrev pub FormsReadReduced : Type 0

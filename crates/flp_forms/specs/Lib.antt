@@ -1,10 +1,10 @@
 -- What a compiled circuit is made of, from public values up to the laws.
 -- public values by steps
 pub mod PublicValues
--- the steps as contracts see them
-pub mod StraightLine
 -- linear forms and their values
 pub mod LinearForms
+-- the steps as contracts see them
+pub mod StraightLine
 -- how forms are held
 pub mod Spans
 -- the laws

@@ -2,7 +2,9 @@
 use Rattle.std.specs.Prelude.{ℕ, ◌≡◌, ◌<◌, ◌^◌, List, ◌++◌, length, Option, Some, slice_get}
 use Rattle.flp_forms.specs.declared.step.Step.{Step}
 use Rattle.flp_forms.specs.declared.step.Step.TheVariants.{Joint}
-use Rattle.flp_forms.specs.PublicValues.{public_at, StepFits}
+use Rattle.flp_forms.specs.declared.term.Scale.{Scale}
+use Rattle.flp_forms.specs.PublicValues.{publics, public_at, StepFits}
+use Rattle.flp_forms.specs.LinearForms.{scale_value, ScaleFits}
 
 -- the number of joint words, and the steps
 pub record StraightLine : Type 0 where
@@ -24,3 +26,8 @@ pub record Grows (old new : StraightLine) : Type 0 where
 pub record StandsFor (line : StraightLine) (step : ℕ) (number : List ℕ → ℕ) : Type 0 where
   pub within : step < length line.steps
   pub value : (joint : List ℕ) → public_at line.steps step joint ≡ number joint
+
+-- the coefficient reads a step that is there, if any, and under each list of joint words its value is this number
+pub record ScalesBy (line : StraightLine) (scale : Scale) (number : List ℕ → ℕ) : Type 0 where
+  pub fits : ScaleFits (length line.steps) scale
+  pub value : (joint : List ℕ) → scale_value (publics line.steps joint) scale ≡ number joint

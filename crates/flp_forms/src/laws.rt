@@ -1,10 +1,15 @@
 //! The laws of public values and linear forms, each the contract of a function that does nothing. The
 //! definitions are in `specs/Laws.antt`.
-ghost use Rattle.flp_forms.specs.Laws.{PublicsAreKept, FormsAreAdditive, FormsReadReduced, FormsAddUp, FormsScale, FormsReadEarlier};
+ghost use Rattle.flp_forms.specs.Laws.{PublicsAreKept, FormsAreKept, FormsAreAdditive, FormsReadReduced, FormsAddUp, FormsScale, FormsReadEarlier};
 
 /// Public values stay as they are when steps are appended.
 pub fn publics_are_kept()
     ensures { PublicsAreKept }
+{}
+
+/// And so does the value of a form over them.
+pub fn forms_are_kept()
+    ensures { FormsAreKept }
 {}
 
 /// The value of terms one after another is the sum of their values.

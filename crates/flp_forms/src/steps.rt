@@ -2,11 +2,13 @@
 ghost use Rattle.std.specs.Prelude.{◌≡◌, ℕ, List, ◌+◌, ◌*◌, ◌^◌, ◌<◌, ◌≤◌, length, map, IfOk, OnErr, IfSome, slice_index};
 ghost use Rattle.std.specs.List.{range_with_len};
 ghost use Rattle.flp_forms.specs.PublicValues.{step_value, publics, public_at, reduced, StepFits};
-ghost use Rattle.flp_forms.specs.StraightLine.{Grows, StandsFor};
+ghost use Rattle.flp_forms.specs.StraightLine.{Grows, StandsFor, ScalesBy};
+ghost use Rattle.flp_forms.specs.LinearForms.{scale_value, ScaleFits};
 
 use crate::Memory;
 use crate::step::{Step, value_of};
-use flp_field::Fe;
+use crate::term::Scale;
+use flp_field::{Fe, MODULUS};
 use std::alloc::Global;
 use std::collections::HashMap;
 use std::marker::Model;
@@ -121,8 +123,8 @@ impl Steps {
 
     /// A step of the value of a step to a power, which is 1 where the exponent is 0.
     ///
-    /// It takes at most two products for each binary digit of the exponent, and one where the power with half
-    /// the exponent, or with the exponent less one, is there. After want of memory there may be new steps.
+    /// It takes at most two products for each binary digit of the exponent, and the powers of a step in turn, from
+    /// the first on, take one each. After want of memory there may be new steps.
     pub fn power(&mut self, base: u32, exponent: u64) -> Result<u32, Memory>
         requires { base < length self.old.steps }
         ensures grows { Grows self.old self.new }
@@ -135,6 +137,41 @@ impl Steps {
         self.raised(base, exponent)
     }
 
+    /// The coefficient with the value of a step: 1 or -1 where the step is that constant, and then it takes no product.
+    pub fn scale_of(&self, step: u32) -> Scale
+        requires { step < length self.now.steps }
+        ensures { ScalesBy self.now result (λ joint. public_at self.now.steps step joint) }
+    {
+        if let Step::Constant(word) = &self.items[step as usize] {
+            if word.value() == 1 {
+                return Scale::One;
+            }
+            if word.value() == MODULUS - 1 {
+                return Scale::MinusOne;
+            }
+        }
+        Scale::Value(step)
+    }
+
+    /// The coefficient that is the product of two. After want of memory there may be new steps.
+    pub fn scale_product(&mut self, left: Scale, right: Scale) -> Result<Scale, Memory>
+        requires left { ScaleFits (length self.old.steps) left }
+        requires right { ScaleFits (length self.old.steps) right }
+        ensures grows { Grows self.old self.new }
+        ensures few { length self.new.steps ≤ length self.old.steps + 3 }
+        ensures value { IfOk result (λ scale. ScalesBy self.new scale (λ joint. scale_value (publics self.old.steps joint) left * scale_value (publics self.old.steps joint) right)) }
+    {
+        match (left, right) {
+            (Scale::One, scale) | (scale, Scale::One) => Ok(scale),
+            (left, right) => {
+                let first = self.step_of(left)?;
+                let second = self.step_of(right)?;
+                let product = self.product(first, second)?;
+                Ok(Scale::Value(product))
+            }
+        }
+    }
+
     /// Writes the public values under these joint words to `out`, which has as many places as there are steps.
     pub fn run(&self, joint: &[Fe], out: &mut [Fe])
         requires words { length joint.now ≡ self.now.joint }
@@ -143,6 +180,20 @@ impl Steps {
     {
         for (i, step) in self.items.iter().enumerate() {
             out[i] = value_of(*step, joint, &out[..i]);
+        }
+    }
+
+    /// A step of the value of a coefficient.
+    fn step_of(&mut self, scale: Scale) -> Result<u32, Memory>
+        requires { ScaleFits (length self.old.steps) scale }
+        ensures grows { Grows self.old self.new }
+        ensures few { length self.new.steps ≤ length self.old.steps + 1 }
+        ensures value { IfOk result (λ step. StandsFor self.new step (λ joint. scale_value (publics self.old.steps joint) scale)) }
+    {
+        match scale {
+            Scale::One => self.constant(Fe::ONE),
+            Scale::MinusOne => self.constant(Fe::ONE.neg()),
+            Scale::Value(step) => Ok(step),
         }
     }
 

@@ -1,4 +1,6 @@
 //! One term of a linear form: a coefficient times a word.
+ghost use Rattle.std.specs.Prelude.{IsTrue, ◌↔◌};
+
 use flp_field::Fe;
 
 /// The coefficient of a term. 1 and -1 take no product.
@@ -26,4 +28,24 @@ pub enum Source {
 pub struct Term {
     pub scale: Scale,
     pub source: Source,
+}
+
+impl Term {
+    ghost use Rattle.flp_forms.specs.LinearForms.{TermFits};
+
+    /// Whether the term reads one of so many public values, words of an encoding and answers.
+    pub fn fits(&self, publics: usize, meas: usize, answers: usize) -> bool
+        ensures { IsTrue result ↔ TermFits publics meas answers self.now }
+    {
+        let scale = match self.scale {
+            Scale::One | Scale::MinusOne => true,
+            Scale::Value(index) => (index as usize) < publics,
+        };
+        let source = match self.source {
+            Source::Unit => true,
+            Source::Meas(index) => (index as usize) < meas,
+            Source::Answer(index) => (index as usize) < answers,
+        };
+        scale && source
+    }
 }
