@@ -4,3 +4,7 @@ pub mod PartByPart
 pub mod Answers
 -- what no reading changes
 pub mod Fixed
+-- public expressions
+pub mod Public
+-- sums of readings
+pub mod Sums

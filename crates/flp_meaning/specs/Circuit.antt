@@ -18,6 +18,10 @@ checks_of body reading = (circuit_of body reading).value.checks
 abbrev pub calls_of : Program → Reading → List Call
 calls_of body reading = (circuit_of body reading).calls
 
+-- the inputs of a call, by its number among all calls, from 0
+abbrev pub inputs_of_call : Program → Reading → ℕ → List ℕ
+inputs_of_call body reading number = get_or (map (λ (call : Call). call.inputs) (calls_of body reading)) number []
+
 -- a coefficient as a word, and a kind of gadget as the tree of what it computes
 abbrev pub coefficient : Coef → ℕ
 coefficient coef = if coef.minus then word_negation coef.size else coef.size

@@ -17,3 +17,6 @@ pub mod Proof
 pub mod Verifier
 -- the laws of what circuits mean
 pub mod MeaningLaws
+-- circuits that are linear in shared values, and what that gives for sums
+pub mod Linear
+pub mod LinearLaws

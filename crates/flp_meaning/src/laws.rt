@@ -3,6 +3,7 @@
 ghost use Rattle.flp_meaning.specs.MeaningLaws.{AnswersDecide, EarlierAnswersDecide, GadgetsAreFixed, CallsAreFixed};
 ghost use Rattle.flp_meaning.specs.MeaningLaws.{ChecksAreFixed, OutsAreFixed, AnsweredIsDirect, CallsAreFilled};
 ghost use Rattle.flp_meaning.specs.MeaningLaws.{TrueAnswersAreDirect};
+ghost use Rattle.flp_meaning.specs.LinearLaws.{ChecksAddUp, InputsAddUp, WireInputsAddUp};
 
 /// Two ways to answer that agree on the calls that are made give the same checks, outs and calls. If they
 /// agree on the first k calls, the calls up to the next one are the same.
@@ -27,4 +28,12 @@ pub fn answered_is_direct()
     ensures own { AnsweredIsDirect }
     ensures filled { CallsAreFilled }
     ensures true_answers { TrueAnswersAreDirect }
+{}
+
+/// In a linear circuit, where a share is the sum of two others, word by word, so are its checks, the inputs of
+/// each call, and what a wire runs through.
+pub fn shares_add_up()
+    ensures checks { ChecksAddUp }
+    ensures inputs { InputsAddUp }
+    ensures wires { WireInputsAddUp }
 {}

@@ -1,0 +1,53 @@
+-- What a linear circuit gives for sums: with sums of encodings, of answers and of units come sums of checks and of inputs. This is why the verifiers
+-- of the shares of an encoding add up. From lists of words up to the laws.
+use Rattle.std.specs.Prelude.{ℕ, ◌≡◌, List, slice_index}
+use Rattle.flp_field.specs.Word.{word_sum}
+use Rattle.flp_syntax.specs.Tree.{Program}
+use Rattle.flp_meaning.specs.Meaning.{Reading}
+use Rattle.flp_meaning.specs.Circuit.{checks_of, calls_of, inputs_of_call, answered}
+use Rattle.flp_meaning.specs.Gadgets.{calls_to}
+use Rattle.flp_meaning.specs.Wires.{inputs_at}
+use Rattle.flp_meaning.specs.Linear.{IsLinear}
+
+-- each word of a list is the sum of those of two others, where a word past the end is 0
+abbrev pub IsSumOf : (whole one two : List ℕ) → Type 0
+IsSumOf whole one two = (k : ℕ) → slice_index whole k ≡ word_sum (slice_index one k) (slice_index two k)
+
+-- what an answered reading reads: an encoding, the unit, and the answers
+pub record Share : Type 0 where
+  pub x : List ℕ
+  pub unit : ℕ
+  pub answers : List ℕ
+
+-- a share is the sum of two others
+pub record ShareIsSum (whole one two : Share) : Type 0 where
+  pub words : IsSumOf whole.x one.x two.x
+  pub unit : whole.unit ≡ word_sum one.unit two.unit
+  pub answers : IsSumOf whole.answers one.answers two.answers
+
+abbrev pub read : List ℕ → Share → Reading
+read joint share = answered share.x joint share.unit share.answers
+
+-- the checks of the sum are the sums of the checks
+abbrev pub ChecksAddUp : Type 0
+ChecksAddUp =
+    (body : Program) (joint : List ℕ) (whole one two : Share) → IsLinear body → ShareIsSum whole one two
+    → IsSumOf (checks_of body (read joint whole)) (checks_of body (read joint one)) (checks_of body (read joint two))
+
+-- the inputs of each call too
+abbrev pub InputsAddUp : Type 0
+InputsAddUp =
+    (body : Program) (joint : List ℕ) (whole one two : Share) (number : ℕ) → IsLinear body → ShareIsSum whole one two
+    → IsSumOf
+    (inputs_of_call body (read joint whole) number)
+    (inputs_of_call body (read joint one) number)
+    (inputs_of_call body (read joint two) number)
+
+-- and so the inputs that a wire runs through
+abbrev pub WireInputsAddUp : Type 0
+WireInputsAddUp =
+    (body : Program) (joint : List ℕ) (whole one two : Share) (gadget input : ℕ) → IsLinear body → ShareIsSum whole one two
+    → IsSumOf
+    (inputs_at input (calls_to gadget (calls_of body (read joint whole))))
+    (inputs_at input (calls_to gadget (calls_of body (read joint one))))
+    (inputs_at input (calls_to gadget (calls_of body (read joint two))))
