@@ -38,14 +38,14 @@ pub record CallFits (publics meas number : ℕ) (inputs : List (List Term)) (cal
   pub inside : call.end ≤ length inputs
   pub forms : All (FormFits publics meas number) (inputs_in inputs call)
 
--- the code of a circuit
+-- the code of a circuit, on shares with as many words as its encodings have
 pub record Tied (body : Program) (code : Code) : Type 0 where
   pub joint : code.steps.joint ≡ body.joint
-  pub calls : (joint : List ℕ) (share : Share)
+  pub calls : (joint : List ℕ) (share : Share) → length share.meas ≡ body.meas
       → map (call_by (publics code.steps.steps joint) share code.inputs) code.calls ≡ calls_of body (read_by joint share)
-  pub checks : (joint : List ℕ) (share : Share)
+  pub checks : (joint : List ℕ) (share : Share) → length share.meas ≡ body.meas
       → form_words (publics code.steps.steps joint) share code.checks ≡ checks_of body (read_by joint share)
-  pub outs : (joint : List ℕ) (share : Share)
+  pub outs : (joint : List ℕ) (share : Share) → length share.meas ≡ body.meas
       → form_words (publics code.steps.steps joint) share code.outs ≡ (circuit_of body (read_by joint share)).value.outs
   pub calls_fit : (number : ℕ) (call : CallForms) → slice_get code.calls number ≡ Some call
       → CallFits (length code.steps.steps) body.meas number code.inputs call

@@ -1,7 +1,7 @@
 -- Circuits that have code: indices stay below 2^32, the words that are read are there, and forms are linear. From an index up to a circuit.
-use Rattle.std.specs.Prelude.{ℕ, ◌≡◌, ◌+◌, ◌-◌, ◌*◌, ◌^◌, ◌<◌, ◌≤◌, Bool, true, false, ◌||◌, [], length}
+use Rattle.std.specs.Prelude.{ℕ, ◌≡◌, ◌+◌, ◌-◌, ◌*◌, ◌^◌, ◌<◌, ◌≤◌, Bool, true, false, [], length}
 use Rattle.flp_syntax.specs.Tree.{Index, index_number, index_var, index_add, index_mul, IndexItems, no_index_items, index_item_on, Indices, no_indices, index_on, Tree, number, var, joint, meas, meas_or_zero, sum, call, add, mul, pow, Items, no_items, item_on, Trees, no_trees, tree_on, Argument, one, each_arg, Arguments, no_args, arg_on, Statement, check, out, each, Statements, no_stmts, stmt_on, Program}
-use Rattle.flp_syntax.specs.Sorts.{is_shared, has_shared_item}
+use Rattle.flp_syntax.specs.Sorts.{is_shared, has_shared_item, has_shared}
 use Rattle.flp_syntax.specs.Scope.{Scope, inside, index_value}
 
 -- ---- an index, whose values and those within it are below 2^32, and no difference below 0
@@ -35,6 +35,11 @@ pub record LoopFits (scope : Scope) (low high : Index) (turn_fits : ℕ → Type
 
 -- ---- expressions
 
+-- a product of which at most one factor is shared: behind a shared one none is
+abbrev pub IsLinear : Trees → Type 0
+IsLinear no_trees = Unit {0}
+IsLinear (tree_on expr more) = (is_shared expr ≡ true → has_shared more ≡ false) × IsLinear more
+
 abbrev mutual
   pub TreeFits : Program → Scope → Tree → Type 0
   TreeFits body scope (number at value) = Unit {0}
@@ -46,18 +51,16 @@ abbrev mutual
       LoopFits scope from to (λ turn. TreeFits body (inside scope name turn) inner)
   TreeFits body scope (call at name args) = ArgumentsFit body scope args
   TreeFits body scope (add at items) = ItemsFit body scope items
-  TreeFits body scope (mul at factors) = FactorsFit body scope false factors
+  TreeFits body scope (mul at factors) = IsLinear factors × FactorsFit body scope factors
   TreeFits body scope (pow at base exponent) = (is_shared base ≡ false) × TreeFits body scope base × IndexFits scope exponent
 
   pub ItemsFit : Program → Scope → Items → Type 0
   ItemsFit body scope no_items = Unit {0}
   ItemsFit body scope (item_on minus expr more) = TreeFits body scope expr × ItemsFit body scope more
 
-  -- the factors of a product, behind a shared one or not: at most one is shared
-  pub FactorsFit : Program → Scope → Bool → Trees → Type 0
-  FactorsFit body scope behind no_trees = Unit {0}
-  FactorsFit body scope behind (tree_on expr more) =
-      (behind ≡ true → is_shared expr ≡ false) × TreeFits body scope expr × FactorsFit body scope (behind || is_shared expr) more
+  pub FactorsFit : Program → Scope → Trees → Type 0
+  FactorsFit body scope no_trees = Unit {0}
+  FactorsFit body scope (tree_on expr more) = TreeFits body scope expr × FactorsFit body scope more
 
   pub ArgumentFits : Program → Scope → Argument → Type 0
   ArgumentFits body scope (one expr) = TreeFits body scope expr

@@ -3,3 +3,7 @@
 pub mod Fitting
 -- the code of a circuit
 pub mod Code
+-- the loops round a place, as the program keeps them
+pub mod Scopes
+-- public values that are made
+pub mod Standing

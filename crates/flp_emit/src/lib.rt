@@ -8,6 +8,11 @@
 
 mod body;
 mod code;
+mod index;
+mod public;
+mod scope;
+mod sorts;
+mod value;
 
 pub use body::emit;
 pub use code::{CallForms, Code};

@@ -1,0 +1,139 @@
+//! Public expressions: each becomes a step.
+ghost use Rattle.std.specs.Prelude.{◌≡◌, ◌≤◌, ◌<◌, ℕ, false, map, IfOk};
+ghost use Rattle.flp_syntax.specs.Tree.{items, trees};
+ghost use Rattle.flp_syntax.specs.Sorts.{is_shared, has_shared_item, has_shared};
+ghost use Rattle.flp_syntax.specs.Scope.{inside, turns};
+ghost use Rattle.flp_syntax.specs.View.{tree_of, item_of, program_of};
+ghost use Rattle.flp_meaning.specs.Meaning.{meaning, items_of, factors_of, total, product};
+ghost use Rattle.flp_emit.specs.Fitting.{TreeFits, ItemsFit, FactorsFit};
+ghost use Rattle.flp_emit.specs.Scopes.{scope_of};
+ghost use Rattle.flp_emit.specs.Standing.{Makes};
+
+use crate::Memory;
+use crate::index::index_value;
+use crate::scope::{Bound, Turns, bound_value, inside};
+use crate::value::{added, constant, multiplied, number, raised, settled, with_sign};
+use flp_field::Fe;
+use flp_forms::Steps;
+use flp_syntax::{Body, Expr, Item};
+use std::alloc::Global;
+
+/// A step of the value of a public expression.
+#[cycle(public)]
+#[tactic(auto, using(flp_syntax::specs::View::view_equations))]
+pub(crate) fn public_step<'a>(
+    alloc: Global,
+    body: &Body,
+    scope: &[Bound<'a>],
+    steps: &mut Steps,
+    expr: &'a Expr,
+) -> Result<u32, Memory>
+    requires joint { steps.old.joint ≡ body.now.joint }
+    requires public { is_shared (tree_of expr.now) ≡ false }
+    requires fits { TreeFits (program_of body.now) (scope_of scope.now) (tree_of expr.now) }
+    ensures { IfOk result (λ step. Makes steps.old steps.new step (λ reading. meaning (program_of body.now).gadgets reading (scope_of scope.now) (tree_of expr.now))) }
+{
+    match expr {
+        Expr::Number { value, .. } => constant(steps, *value),
+        Expr::Var { name, .. } => number(steps, bound_value(scope, name.as_slice())),
+        Expr::Joint { index, .. } => {
+            let word = index_value(scope, index);
+            Ok(steps.joint(word))
+        }
+        Expr::Sum {
+            name,
+            from,
+            to,
+            inner,
+            ..
+        } => {
+            let over = Turns {
+                name: name.as_slice(),
+                from: index_value(scope, from),
+                to: index_value(scope, to),
+            };
+            public_turns(alloc, body, scope, steps, over, inner)
+        }
+        Expr::Add { items, .. } => public_sum(alloc, body, scope, steps, items.as_slice()),
+        Expr::Mul { factors, .. } => public_product(alloc, body, scope, steps, factors.as_slice()),
+        Expr::Pow { base, exponent, .. } => {
+            let exponent = index_value(scope, exponent);
+            let base = public_step(alloc, body, scope, steps, base)?;
+            let power = raised(steps, base, exponent)?;
+            Ok(power)
+        }
+        Expr::Meas { .. } | Expr::MeasOrZero { .. } | Expr::Call { .. } => unreachable!(),
+    }
+}
+
+/// A step of the sum over the turns of a loop.
+#[cycle(public)]
+fn public_turns<'a>(
+    alloc: Global,
+    body: &Body,
+    scope: &[Bound<'a>],
+    steps: &mut Steps,
+    over: Turns<'a>,
+    inner: &'a Expr,
+) -> Result<u32, Memory>
+    requires joint { steps.old.joint ≡ body.now.joint }
+    requires public { is_shared (tree_of inner.now) ≡ false }
+    requires fits { (turn : ℕ) → over.from ≤ turn → turn < over.to → TreeFits (program_of body.now) (inside (scope_of scope.now) over.name.now turn) (tree_of inner.now) }
+    ensures { IfOk result (λ step. Makes steps.old steps.new step (λ reading. total (map (λ turn. meaning (program_of body.now).gadgets reading (inside (scope_of scope.now) over.entry.name.now turn) (tree_of inner.now)) (turns over.entry.from over.entry.to)))) }
+{
+    let mut sum = None;
+    for turn in over.from..over.to {
+        let within = inside(alloc, scope, over.name, turn)?;
+        let step = public_step(alloc, body, &within, steps, inner)?;
+        sum = Some(added(steps, sum, step)?);
+    }
+    let all = settled(steps, sum, Fe::ZERO)?;
+    Ok(all)
+}
+
+/// A step of the sum of public items.
+#[cycle(public)]
+fn public_sum<'a>(
+    alloc: Global,
+    body: &Body,
+    scope: &[Bound<'a>],
+    steps: &mut Steps,
+    list: &'a [Item],
+) -> Result<u32, Memory>
+    requires joint { steps.old.joint ≡ body.now.joint }
+    requires public { has_shared_item (items (map item_of list.now)) ≡ false }
+    requires fits { ItemsFit (program_of body.now) (scope_of scope.now) (items (map item_of list.now)) }
+    ensures { IfOk result (λ step. Makes steps.old steps.new step (λ reading. total (items_of (program_of body.now).gadgets reading (scope_of scope.now) false (items (map item_of list.entry.now))))) }
+{
+    let mut sum = None;
+    for item in list {
+        let value = public_step(alloc, body, scope, steps, &item.expr)?;
+        let step = with_sign(steps, item.minus, value)?;
+        sum = Some(added(steps, sum, step)?);
+    }
+    let all = settled(steps, sum, Fe::ZERO)?;
+    Ok(all)
+}
+
+/// A step of the product of public factors.
+#[cycle(public)]
+fn public_product<'a>(
+    alloc: Global,
+    body: &Body,
+    scope: &[Bound<'a>],
+    steps: &mut Steps,
+    factors: &'a [Expr],
+) -> Result<u32, Memory>
+    requires joint { steps.old.joint ≡ body.now.joint }
+    requires public { has_shared (trees (map tree_of factors.now)) ≡ false }
+    requires fits { FactorsFit (program_of body.now) (scope_of scope.now) (trees (map tree_of factors.now)) }
+    ensures { IfOk result (λ step. Makes steps.old steps.new step (λ reading. product (factors_of (program_of body.now).gadgets reading (scope_of scope.now) (trees (map tree_of factors.entry.now))))) }
+{
+    let mut product = None;
+    for factor in factors {
+        let step = public_step(alloc, body, scope, steps, factor)?;
+        product = Some(multiplied(steps, product, step)?);
+    }
+    let all = settled(steps, product, Fe::ONE)?;
+    Ok(all)
+}
