@@ -1,9 +1,9 @@
 -- What the code of a circuit says of its calls, checks and outs. From their numbers up to their values.
 use Rattle.std.proofs.Common.{◌≡◌, ℕ, ◌+◌, ◌-◌, ◌*◌, ◌<◌, ◌≤◌, ◌%◌, List, [], ◌∷◌, length, map, take, drop, get_or, min, Some, refl, sym, ◌∙◌, ap, ap₂, subst, arith}
-use Rattle.std.specs.Prelude.{slice_index}
+use Rattle.std.specs.Prelude.{slice_index, replicate}
 use Rattle.std.specs.List.{All, slice_get, slice_range}
 use Rattle.std.specs.Option.{option_map}
-use Rattle.std.proofs.lemmas.List.{get_or-take, get_or-map}
+use Rattle.std.proofs.lemmas.List.{get_or-take, get_or-map, length-replicate}
 use Rattle.std.proofs.lemmas.List.Elements.{All-head, All-tail}
 use Rattle.std.proofs.lemmas.Option.{slice_get-map, slice_get_within, get_or_from_slice_get, slice_get-get_or}
 use Rattle.flp_field.specs.Word.{modulus}
@@ -11,6 +11,7 @@ use Rattle.flp_syntax.specs.Tree.{Program}
 use Rattle.flp_meaning.specs.Meaning.{Call}
 use Rattle.flp_meaning.specs.Circuit.{circuit_of, checks_of, calls_of, outs_of, answered}
 use Rattle.flp_meaning.specs.Gadgets.{arity_of, gadgets_called, call_count, call_gadget, check_count, out_count}
+use Rattle.flp_meaning.proofs.Fixed.{gadgets_are_fixed, checks_are_fixed, outs_are_fixed}
 use Rattle.flp_forms.specs.declared.term.Term.{Term}
 use Rattle.flp_forms.specs.declared.term.Source.{Source}
 use Rattle.flp_forms.specs.declared.term.Source.TheVariants.{Unit as ByUnit, Meas, Answer}
@@ -27,6 +28,13 @@ use Rattle.flp_plan.proofs.FormLemmas.{all_at, range_length, mapped_length}
 
 -- ---- how many there are
 
+-- a share of zeros
+abbrev zeros : Program → Share
+zeros body = share_of (replicate body.meas 0) [] 1
+
+zeros_fit : (body : Program) → length (zeros body).meas ≡ body.meas
+zeros_fit body = length-replicate body.meas 0
+
 gadgets-call_by : (values : List ℕ) (share : Share) (inputs : List (List Term)) (calls : List CallForms)
     → map (λ (call : Call). call.gadget) (map (call_by values share inputs) calls) ≡ map (λ (call : CallForms). call.gadget) calls
 gadgets-call_by values share inputs [] = refl
@@ -37,8 +45,9 @@ gadgets-call_by values share inputs (call ∷ calls) =
 pub gadgets_called-code : (body : Program) (code : Code) → Tied body code
     → gadgets_called body ≡ map (λ (call : CallForms). call.gadget) code.calls
 gadgets_called-code body code tied =
-    sym (ap (λ (calls : List Call). map (λ (call : Call). call.gadget) calls) (tied.calls [] (share_of [] [] 1)))
-    ∙ gadgets-call_by (publics code.steps.steps []) (share_of [] [] 1) code.inputs code.calls
+    sym (gadgets_are_fixed body (read_by [] (zeros body)))
+    ∙ sym (ap (λ (calls : List Call). map (λ (call : Call). call.gadget) calls) (tied.calls [] (zeros body) (zeros_fit body)))
+    ∙ gadgets-call_by (publics code.steps.steps []) (zeros body) code.inputs code.calls
 
 pub call_count-code : (body : Program) (code : Code) → Tied body code → call_count body ≡ length code.calls
 call_count-code body code tied =
@@ -46,11 +55,13 @@ call_count-code body code tied =
 
 pub check_count-code : (body : Program) (code : Code) → Tied body code → check_count body ≡ length code.checks
 check_count-code body code tied =
-    sym (ap (λ (l : List ℕ). length l) (tied.checks [] (share_of [] [] 1))) ∙ mapped_length (λ (form : List Term). form_value (publics code.steps.steps []) (share_of [] [] 1) form % modulus) code.checks
+    sym (checks_are_fixed body (read_by [] (zeros body)))
+    ∙ sym (ap (λ (l : List ℕ). length l) (tied.checks [] (zeros body) (zeros_fit body))) ∙ mapped_length (λ (form : List Term). form_value (publics code.steps.steps []) (zeros body) form % modulus) code.checks
 
 pub out_count-code : (body : Program) (code : Code) → Tied body code → out_count body ≡ length code.outs
 out_count-code body code tied =
-    sym (ap (λ (l : List ℕ). length l) (tied.outs [] (share_of [] [] 1))) ∙ mapped_length (λ (form : List Term). form_value (publics code.steps.steps []) (share_of [] [] 1) form % modulus) code.outs
+    sym (outs_are_fixed body (read_by [] (zeros body)))
+    ∙ sym (ap (λ (l : List ℕ). length l) (tied.outs [] (zeros body) (zeros_fit body))) ∙ mapped_length (λ (form : List Term). form_value (publics code.steps.steps []) (zeros body) form % modulus) code.outs
 
 pub call_gadget-code : (body : Program) (code : Code) (number : ℕ) (d : CallForms) → Tied body code → number < call_count body
     → (get_or code.calls number d).gadget ≡ call_gadget body number
@@ -77,9 +88,9 @@ pub call_size : (body : Program) (code : Code) (number : ℕ) (call : CallForms)
     → slice_get code.calls number ≡ Some call → call.end - call.first ≡ arity_of body call.gadget
 call_size body code number call tied keeps there =
     let values : List ℕ = publics code.steps.steps [] in
-    let blank : Share = share_of [] [] 1 in
+    let blank : Share = zeros body in
     let found : slice_get (calls_of body (read_by [] blank)) number ≡ Some (call_by values blank code.inputs call) =
-    ap (λ (l : List Call). slice_get l number) (sym (tied.calls [] blank))
+    ap (λ (l : List Call). slice_get l number) (sym (tied.calls [] blank (zeros_fit body)))
     ∙ slice_get-map (call_by values blank code.inputs) code.calls number ∙ ap (λ o. option_map (call_by values blank code.inputs) o) there in
     let arity : length (form_words values blank (inputs_in code.inputs call)) ≡ arity_of body call.gadget =
     all_at (λ (made : Call). length made.inputs ≡ arity_of body made.gadget) (calls_of body (read_by [] blank)) number
@@ -93,11 +104,11 @@ call_size body code number call tied keeps there =
 
 -- the values of a call's forms are its inputs
 pub call_value : (body : Program) (code : Code) (number : ℕ) (call : CallForms) (joint : List ℕ) (share : Share) (out : List ℕ)
-    → Tied body code → slice_get code.calls number ≡ Some call → call.gadget ≡ call_gadget body number
-    → out ≡ form_words (publics code.steps.steps joint) share (inputs_in code.inputs call)
+    → Tied body code → length share.meas ≡ body.meas → slice_get code.calls number ≡ Some call
+    → call.gadget ≡ call_gadget body number → out ≡ form_words (publics code.steps.steps joint) share (inputs_in code.inputs call)
     → HasInputs body (read_by joint share) number out
-call_value body code number call joint share out tied there gadget same =
-    ap (λ (l : List Call). slice_get l number) (sym (tied.calls joint share))
+call_value body code number call joint share out tied fits there gadget same =
+    ap (λ (l : List Call). slice_get l number) (sym (tied.calls joint share fits))
     ∙ slice_get-map (call_by (publics code.steps.steps joint) share code.inputs) code.calls number
     ∙ ap (λ o. option_map (call_by (publics code.steps.steps joint) share code.inputs) o) there
     ∙ ap₂ (λ (g : ℕ) (l : List ℕ). Some (record { gadget = g; inputs = l })) gadget (sym same)
@@ -155,37 +166,37 @@ inputs_fit body code number call publics words answers size there same_publics s
 
 -- what was written of a call are its inputs, whatever answers others give
 pub written_inputs : (body : Program) (code : Code) (number : ℕ) (call : CallForms) (joint x answers others out : List ℕ)
-    → (unit size : ℕ) → Tied body code → CallThere body code number call → size ≡ arity_of body (call_gadget body number)
+    → (unit size : ℕ) → Tied body code → length x ≡ body.meas → CallThere body code number call → size ≡ arity_of body (call_gadget body number)
     → out ≡ form_words (publics code.steps.steps joint) (share_of x answers unit) (take size (drop call.first code.inputs))
     → take number others ≡ take number answers
     → HasInputs body (answered x joint unit others) number out
-written_inputs body code number call joint x answers others out unit size tied there same_size written same =
+written_inputs body code number call joint x answers others out unit size tied fits there same_size written same =
     let values : List ℕ = publics code.steps.steps joint in
     let these : out ≡ form_words values (share_of x answers unit) (inputs_in code.inputs call) =
     subst (λ (n : ℕ). out ≡ form_words values (share_of x answers unit) (take n (drop call.first code.inputs)))
     (same_size ∙ sym there.size) written in
-    call_value body code number call joint (share_of x others unit) out tied there.found there.gadget
+    call_value body code number call joint (share_of x others unit) out tied fits there.found there.gadget
     (these ∙ sym (words_below values (share_of x others unit) (share_of x answers unit) (length code.steps.steps) body.meas number
     (inputs_in code.inputs call) (same_below x answers others unit body.meas number same) there.fit.forms))
 
 -- ---- a check and an out
 
 pub check_value : (body : Program) (code : Code) (index : ℕ) (form : List Term) (joint : List ℕ) (share : Share) (result : ℕ)
-    → Tied body code → slice_get code.checks index ≡ Some form
+    → Tied body code → length share.meas ≡ body.meas → slice_get code.checks index ≡ Some form
     → result ≡ form_value (publics code.steps.steps joint) share form % modulus
     → slice_get (checks_of body (read_by joint share)) index ≡ Some result
-check_value body code index form joint share result tied there same =
-    ap (λ (l : List ℕ). slice_get l index) (sym (tied.checks joint share))
+check_value body code index form joint share result tied fits there same =
+    ap (λ (l : List ℕ). slice_get l index) (sym (tied.checks joint share fits))
     ∙ slice_get-map (λ (f : List Term). form_value (publics code.steps.steps joint) share f % modulus) code.checks index
     ∙ ap (λ o. option_map (λ (f : List Term). form_value (publics code.steps.steps joint) share f % modulus) o) there
     ∙ ap Some (sym same)
 
 pub out_value : (body : Program) (code : Code) (index : ℕ) (form : List Term) (joint : List ℕ) (share : Share) (result : ℕ)
-    → Tied body code → Keeps body → slice_get code.outs index ≡ Some form
+    → Tied body code → Keeps body → length share.meas ≡ body.meas → slice_get code.outs index ≡ Some form
     → result ≡ form_value (publics code.steps.steps joint) share form % modulus
     → slice_get (outs_of body share.meas) index ≡ Some result
-out_value body code index form joint share result tied keeps there same =
-    ap (λ (l : List ℕ). slice_get l index) (sym (tied.outs joint share ∙ keeps.outs (read_by joint share)))
+out_value body code index form joint share result tied keeps fits there same =
+    ap (λ (l : List ℕ). slice_get l index) (sym (tied.outs joint share fits ∙ keeps.outs (read_by joint share)))
     ∙ slice_get-map (λ (f : List Term). form_value (publics code.steps.steps joint) share f % modulus) code.outs index
     ∙ ap (λ o. option_map (λ (f : List Term). form_value (publics code.steps.steps joint) share f % modulus) o) there
     ∙ ap Some (sym same)

@@ -1,5 +1,5 @@
 -- The laws of shares: what a circuit makes of shares adds up to what it makes of their sums. From one share up.
-use Rattle.std.specs.Prelude.{ℕ, ◌<◌, ◌≡◌, List, map}
+use Rattle.std.specs.Prelude.{ℕ, ◌<◌, ◌≡◌, List, map, length, All}
 use Rattle.flp_field.specs.Sums.{sum_of_lists}
 use Rattle.flp_syntax.specs.Tree.{Program}
 use Rattle.flp_meaning.specs.Meaning.{Reading}
@@ -13,14 +13,20 @@ use Rattle.flp_plan.specs.View.{inputs_of}
 abbrev pub reading_on : Share → List ℕ → Reading
 reading_on share joint = answered share.meas joint share.unit share.answers
 
--- where the words, answers and units of the shares add up modulo p to those of the whole, so do the checks, and so do the inputs of each call
+-- shares of a whole: as many words as an encoding has, which add up modulo p to those of the whole, and so do the answers and the units
+pub record AreSharesOf (circuit : Program) (whole : Share) (shares : List Share) : Type 0 where
+  pub words : length whole.meas ≡ circuit.meas
+  pub each_words : All (λ (share : Share). length share.meas ≡ circuit.meas) shares
+  pub sums : IsSumOf whole shares
+
+-- then the checks add up, and so do the inputs of each call
 pub record SharesAddUp (circuit : Program) : Type 0 where
   pub checks :
-      (joint : List ℕ) (whole : Share) (shares : List Share) → IsSumOf whole shares
+      (joint : List ℕ) (whole : Share) (shares : List Share) → AreSharesOf circuit whole shares
       → checks_of circuit (reading_on whole joint)
       ≡ sum_of_lists (check_count circuit) (map (λ share. checks_of circuit (reading_on share joint)) shares)
   pub inputs :
-      (joint : List ℕ) (whole : Share) (shares : List Share) → IsSumOf whole shares
+      (joint : List ℕ) (whole : Share) (shares : List Share) → AreSharesOf circuit whole shares
       → (number : ℕ) → number < call_count circuit
       → inputs_of circuit (reading_on whole joint) number
       ≡ sum_of_lists

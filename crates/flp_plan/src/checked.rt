@@ -1,21 +1,17 @@
 //! A circuit that was checked. It stands here until the checker gives it.
+ghost use Rattle.std.specs.Prelude.{◌≡◌, Ok};
+ghost use Rattle.flp_syntax.specs.View.{program_of};
+ghost use Rattle.flp_check.specs.Verdict.{verdict};
+
+use flp_list::List;
 use flp_syntax::Body;
-use std::marker::Model;
 
-/// A circuit that was checked.
-#[derive(Drop)]
+/// A body that passed `check`, with the calls of each gadget, the checks and the outputs, loops unrolled.
+#[derive(Debug, Drop)]
 pub struct Checked {
-    pub(crate) body: Body,
-}
-
-impl Model for Checked {
-    ghost use Rattle.flp_syntax.specs.Tree.{Program};
-    ghost use Rattle.flp_syntax.specs.View.{program_of};
-    ghost use Rattle.flp_plan.specs.Codes.{coded_circuit};
-
-    ghost Value = { Program };
-
-    ghost coded = { coded_circuit };
-
-    ghost view = { λ checked. program_of checked.body };
+    pub body: Body,
+    pub calls: List<u32>,
+    pub checks: u32,
+    pub outs: u32,
+    pub ghost passed: { verdict (program_of body) ≡ Ok (record { calls = calls; checks = checks; outs = outs }) },
 }

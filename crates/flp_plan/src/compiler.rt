@@ -1,5 +1,6 @@
 //! A checked circuit is made a plan.
 ghost use Rattle.std.specs.Prelude.{◌≡◌, IfOk, IfErr, None};
+ghost use Rattle.flp_syntax.specs.View.{program_of};
 ghost use Rattle.flp_plan.specs.Counted.{limit_fault, IsFaultOf};
 
 use crate::checked::Checked;
@@ -12,9 +13,9 @@ use std::alloc::Global;
 /// It refuses a circuit exactly where the points of its wires, or else its terms, are more than 1,048,576, with
 /// the whole count, and counts them before it makes code. After a refusal the circuit is dropped.
 pub fn compile(alloc: Global, checked: Checked) -> Result<Plan, PlanFault>
-    ensures circuit { IfOk result (λ plan. plan.circuit ≡ checked) }
-    ensures within { IfOk result (λ _. limit_fault checked ≡ None) }
-    ensures fault { IfErr result (λ fault. IsFaultOf checked fault) }
+    ensures circuit { IfOk result (λ plan. plan.circuit ≡ program_of checked.body) }
+    ensures within { IfOk result (λ _. limit_fault (program_of checked.body) ≡ None) }
+    ensures fault { IfErr result (λ fault. IsFaultOf (program_of checked.body) fault) }
 {
     Err(PlanFault::Memory)
 }

@@ -41,6 +41,7 @@ impl Model for Plan {
     ghost use Rattle.std.specs.Prelude.{◌≡◌};
     ghost use Rattle.std.specs.Coded.{codes};
     ghost use Rattle.flp_plan.specs.Codes.{coded_circuit};
+    ghost use Rattle.flp_syntax.specs.View.{program_of};
     ghost use Rattle.flp_plan.specs.View.{Compiled};
     ghost use Rattle.flp_plan.specs.Plan.{IsPlanOf};
 
@@ -48,9 +49,9 @@ impl Model for Plan {
 
     ghost coded = { Prim.hlevel (codes, coded_circuit) };
 
-    ghost view = { λ plan. record { circuit = plan.checked; steps = plan.code.steps.steps } };
+    ghost view = { λ plan. record { circuit = program_of plan.checked.body; steps = plan.code.steps.steps } };
 
-    ghost invariant = { λ plan. IsPlanOf plan.checked plan.code plan.gadgets.items plan.numbers.items plan.lengths };
+    ghost invariant = { λ plan. IsPlanOf (program_of plan.checked.body) plan.code plan.gadgets.items plan.numbers.items plan.lengths };
 }
 
 impl Plan {

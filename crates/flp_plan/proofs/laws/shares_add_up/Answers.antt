@@ -1,4 +1,5 @@
 use Rattle.std.proofs.Common.{subst}
+use Rattle.flp_syntax.specs.View.{program_of}
 use Rattle.flp_plan.specs.Shares.{SharesAddUp}
 use Rattle.flp_plan.specs.View.{Compiled}
 use Rattle.flp_plan.proofs.SharesLemmas.{shares_add_up}
@@ -7,4 +8,4 @@ use Rattle.flp_plan.proofs.laws.shares_add_up.Goals as goal
 pub returns : goal.returns
 returns c =
     subst (λ (plan : Compiled). SharesAddUp plan.circuit) c.plan.view_is
-    (shares_add_up c.plan.inside.checked c.plan.inside.code c.plan.invariant.tied c.plan.invariant.keeps)
+    (shares_add_up (program_of c.plan.inside.checked.body) c.plan.inside.code c.plan.invariant.tied c.plan.invariant.keeps)

@@ -4,13 +4,14 @@ use Rattle.flp_meaning.specs.Gadgets.{arity_of, call_count, call_gadget}
 use Rattle.flp_forms.specs.LinearForms.{share_of}
 use Rattle.flp_forms.specs.PublicValues.{publics}
 use Rattle.flp_emit.specs.declared.code.CallForms.{CallForms}
+use Rattle.flp_syntax.specs.View.{program_of}
 use Rattle.flp_plan.specs.View.{Compiled, publics_of, HasInputs}
 use Rattle.flp_plan.proofs.TiedLemmas.{call_count-code, call_there, CallThere, inputs_fit, written_inputs}
 use Rattle.flp_plan.proofs.plan.Plan.inputs.Goals as goal
 
 pub bounds-as_slice-call : goal.bounds-as_slice-call
 bounds-as_slice-call c =
-    let count = call_count-code c.self.inside.checked c.self.inside.code c.self.invariant.tied in
+    let count = call_count-code (program_of c.self.inside.checked.body) c.self.inside.code c.self.invariant.tied in
     let seen = ap (λ (plan : Compiled). call_count plan.circuit) c.self.view_is in
     let size = ap (λ (l : List CallForms). length l) c.as_slice.ensures in
     omega arith
@@ -19,7 +20,7 @@ pub write_values-requires-clause-there : goal.write_values-requires-clause-there
 write_values-requires-clause-there c =
     let seen = ap (λ (plan : Compiled). call_count plan.circuit) c.self.view_is in
     let room = ap (λ (plan : Compiled). arity_of plan.circuit (call_gadget plan.circuit c.args.call)) c.self.view_is in
-    let there = call_there c.self.inside.checked c.self.inside.code c.as_slice.result.now c.args.call
+    let there = call_there (program_of c.self.inside.checked.body) c.self.inside.code c.as_slice.result.now c.args.call
     (record { gadget = 0; first = 0; end = 0 }) c.self.invariant.tied c.self.invariant.keeps c.as_slice.ensures (omega arith) in
     omega (arith, there.size, there.fit.ordered, there.fit.inside)
 
@@ -29,21 +30,22 @@ write_values-requires-clause-fit c =
     let words = ap (λ (plan : Compiled). plan.circuit.meas) c.self.view_is in
     let steps = ap (λ (plan : Compiled). length plan.steps) c.self.view_is in
     let room = ap (λ (plan : Compiled). arity_of plan.circuit (call_gadget plan.circuit c.args.call)) c.self.view_is in
-    let there = call_there c.self.inside.checked c.self.inside.code c.as_slice.result.now c.args.call
+    let there = call_there (program_of c.self.inside.checked.body) c.self.inside.code c.as_slice.result.now c.args.call
     (record { gadget = 0; first = 0; end = 0 }) c.self.invariant.tied c.self.invariant.keeps c.as_slice.ensures (omega arith) in
-    inputs_fit c.self.inside.checked c.self.inside.code c.args.call _ (length c.args.publics.now) (length c.args.x.now)
+    inputs_fit (program_of c.self.inside.checked.body) c.self.inside.code c.args.call _ (length c.args.publics.now) (length c.args.x.now)
     (length c.args.answers.now) (length c.args.out.now) there (omega arith) (omega arith) (omega arith) (omega arith)
 
 pub returns-clause-earlier : goal.returns-clause-earlier
 returns-clause-earlier c joint others same agree =
     let seen = ap (λ (plan : Compiled). call_count plan.circuit) c.self.view_is in
     let room = ap (λ (plan : Compiled). arity_of plan.circuit (call_gadget plan.circuit c.args.call)) c.self.view_is in
-    let there = call_there c.self.inside.checked c.self.inside.code c.as_slice.result.now c.args.call
+    let there = call_there (program_of c.self.inside.checked.body) c.self.inside.code c.as_slice.result.now c.args.call
     (record { gadget = 0; first = 0; end = 0 }) c.self.invariant.tied c.self.invariant.keeps c.as_slice.ensures (omega arith) in
     subst (λ (plan : Compiled). HasInputs plan.circuit (answered c.args.x.now joint c.args.unit others) c.args.call c.write_values.new.out)
     c.self.view_is
-    (written_inputs c.self.inside.checked c.self.inside.code c.args.call _ joint c.args.x.now c.args.answers.now others
-    c.write_values.new.out c.args.unit (length c.args.out.now) c.self.invariant.tied there (omega arith)
+    (written_inputs (program_of c.self.inside.checked.body) c.self.inside.code c.args.call _ joint c.args.x.now c.args.answers.now others
+    c.write_values.new.out c.args.unit (length c.args.out.now) c.self.invariant.tied
+    (c.requires.words ∙ ap (λ (plan : Compiled). plan.circuit.meas) (sym c.self.view_is)) there (omega arith)
     (c.write_values.ensures (publics c.self.inside.code.steps.steps joint)
     (same ∙ ap (λ (plan : Compiled). publics_of plan joint) (sym c.self.view_is))) agree)
 
