@@ -1,3 +1,9 @@
+pub mod CallLemmas
+pub mod FitLemmas
 pub mod FormLemmas
+pub mod OutLemmas
+pub mod ResultLemmas
 pub mod SharesLemmas
+pub mod TermLemmas
 pub mod TiedLemmas
+pub mod WalkLemmas
