@@ -1,9 +1,12 @@
 pub mod CallLemmas
 pub mod FitLemmas
 pub mod FormLemmas
+pub mod KindLemmas
 pub mod OutLemmas
+pub mod PassedLemmas
 pub mod ResultLemmas
 pub mod SharesLemmas
 pub mod TermLemmas
 pub mod TiedLemmas
+pub mod TimesLemmas
 pub mod WalkLemmas
