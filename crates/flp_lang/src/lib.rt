@@ -13,6 +13,8 @@
 //! from a plan to the plan behind their part, with the same verdict.
 #![tactic(auto)]
 
+#[cfg(test)]
+mod check_tests;
 mod decl;
 mod expr;
 mod index;
@@ -22,6 +24,7 @@ mod standard;
 mod stmt;
 mod text;
 
+pub use flp_check::{Checked, check};
 pub use flp_syntax::{
     Arg, Body, Circuit, Coef, Counted, Decl, Expr, Idx, IdxItem, Item, KindText, LangFault, Mark,
     Params, Stmt, Token,
