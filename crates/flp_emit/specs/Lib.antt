@@ -7,3 +7,5 @@ pub mod Code
 pub mod Scopes
 -- public values that are made
 pub mod Standing
+-- how the code grows
+pub mod Emitting

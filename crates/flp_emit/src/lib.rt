@@ -9,12 +9,18 @@
 mod body;
 mod code;
 mod index;
+mod made;
 mod public;
 mod scope;
+mod shared;
 mod sorts;
+mod stmt;
 mod value;
 
 pub use body::emit;
 pub use code::{CallForms, Code};
 /// Want of memory.
 pub use std::alloc::AllocError as Memory;
+
+#[cfg(test)]
+mod tests;
