@@ -9,3 +9,5 @@ pub mod Scopes
 pub mod Standing
 -- how the code grows
 pub mod Emitting
+-- counts of 64 bits
+pub mod Counts
