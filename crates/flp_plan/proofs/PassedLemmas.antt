@@ -284,8 +284,8 @@ module _ (body : Program) (totals : Totals) (p : Passed body totals) where
     among_calls = times_front (call_gadget body number) (number + 1) (gadgets_called body);
   }
 
-  pub passed_limits : wire_count body ≤ most → term_count body ≤ most → IsWithinLimits body
-  passed_limits wires terms =
+  pub passed_limits : 1 ≤ length body.gadgets → wire_count body ≤ most → term_count body ≤ most → IsWithinLimits body
+  passed_limits some wires terms =
       let checks : totals.checks ≡ check_count body = passed_checks in
       let outs : totals.outs ≡ out_count body = passed_outs in
       let same_checks : p.after.checks ≡ totals.checks = ap (λ (t : Totals). t.checks) p.counted in
@@ -297,6 +297,7 @@ module _ (body : Program) (totals : Totals) (p : Passed body totals) where
         some_meas = meas_within.0;
         few_meas = meas_within.1;
         few_joint = joint_within;
+        some_gadgets = some;
         few_gadgets = gadgets_within;
         gadgets = passed_gadget;
         few_calls = omega arith;

@@ -29,6 +29,7 @@ pub record IsWithinLimits (circuit : Program) : Type 0 where
   pub some_meas : 1 ≤ circuit.meas
   pub few_meas : circuit.meas ≤ 65536
   pub few_joint : circuit.joint ≤ 65536
+  pub some_gadgets : 1 ≤ length circuit.gadgets
   pub few_gadgets : length circuit.gadgets ≤ 8
   pub gadgets : (gadget : ℕ) → gadget < length circuit.gadgets → GadgetIsWithin circuit gadget
   pub few_calls : call_count circuit ≤ 32760
