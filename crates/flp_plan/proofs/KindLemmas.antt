@@ -1,8 +1,13 @@
 -- The gadgets of a circuit within its limits are kinds. From one kind up to the gadgets of a circuit.
-use Rattle.std.proofs.Common.{◌≡◌, ℕ, zero, suc, ◌+◌, ◌-◌, ◌*◌, ◌<◌, ◌≤◌, List, [], ◌∷◌, length, map, get_or, min, refl, sym, ◌∙◌, ap, subst, arith}
+use Rattle.std.proofs.Common.{◌≡◌, ℕ, zero, suc, ◌+◌, ◌-◌, ◌*◌, ◌<◌, ◌≤◌, List, [], ◌∷◌, ◌++◌, append_assoc, mul-le-mul, length, map, get_or, min, refl, sym, ◌∙◌, ap, subst, arith}
 use Rattle.std.proofs.lemmas.List.{get_or-map, length-map}
 use Rattle.flp_gadget.specs.KindTree as tree
 use Rattle.flp_gadget.specs.KindTree.{KindTree, Mul, Poly, Psum, HasParts, IsKind}
+use Rattle.std.specs.Option.{option_map}
+use Rattle.flp_gadget.specs.KindProofs.{some_input}
+use Rattle.flp_gadget.specs.declared.kind_step.KindStep.{KindStep}
+use Rattle.flp_gadget.specs.declared.kind_step.KindStep.TheVariants.{Psum as PsumStep}
+use Rattle.flp_plan.specs.Kinds.{StepsFollow}
 use Rattle.flp_syntax.specs.declared.syntax.Coef.{Coef}
 use Rattle.flp_syntax.specs.Tree.{Kind, mul_kind, poly_kind, psum_kind, Declaration, Program}
 use Rattle.flp_syntax.specs.Scope.{arity_of, degree_of}
@@ -48,3 +53,24 @@ arity_at-kind [] gadget below = absurd (omega arith)
 arity_at-kind (decl ∷ more) gadget below =
     arity_at-decl (decl ∷ more) gadget decl below
     ∙ sym (ap tree.arity_of (kind_at (decl ∷ more) gadget decl below) ∙ arity-kind_tree (get_or (decl ∷ more) gadget decl).kind)
+
+-- ---- sums over groups
+
+-- what is under a sum is a kind, and its count is small
+pub kind_under : (sub : KindTree) (count : ℕ) → IsKind (Psum sub count) → (count ≤ 1024) × IsKind sub
+kind_under sub count kind =
+    let some : 1 ≤ tree.arity_of sub = some_input sub kind.parts.1 in
+    let least : count * 1 ≤ count * tree.arity_of sub = mul-le-mul (omega arith) some in
+    let most : 1 * tree.arity_of sub ≤ count * tree.arity_of sub = mul-le-mul kind.parts.0 (omega arith) in
+    let few : count * tree.arity_of sub ≤ 1024 = kind.few_inputs in
+    (omega arith, record { parts = kind.parts.1; few_inputs = omega arith })
+
+-- a sum's step and then the steps of what is under it
+pub steps_under : (old pushed new : List KindStep) (sub : KindTree) (count : ℕ) → pushed ≡ old ++ PsumStep count ∷ []
+    → StepsFollow pushed new sub → StepsFollow old new (Psum sub count)
+steps_under old pushed new sub count push rest =
+    let joined : (old ++ PsumStep count ∷ []) ++ rest.0 ≡ old ++ (PsumStep count ∷ rest.0) = simp append_assoc in (
+      PsumStep count ∷ rest.0,
+      rest.1 ∙ ap (λ (l : List KindStep). l ++ rest.0) push ∙ joined,
+      ap (λ o. option_map (λ (under : KindTree). Psum under count) o) rest.2,
+    )

@@ -1,7 +1,9 @@
 pub mod CallLemmas
+pub mod CompileLemmas
 pub mod FitLemmas
 pub mod FormLemmas
 pub mod KindLemmas
+pub mod NumberLemmas
 pub mod OutLemmas
 pub mod PassedLemmas
 pub mod ResultLemmas
@@ -9,4 +11,5 @@ pub mod SharesLemmas
 pub mod TermLemmas
 pub mod TiedLemmas
 pub mod TimesLemmas
+pub mod UseLemmas
 pub mod WalkLemmas

@@ -7,7 +7,7 @@ use Rattle.flp_meaning.specs.Gadgets.{times}
 use Rattle.flp_plan.proofs.CallLemmas.{times_cons, times_joined}
 
 -- 1 where a test holds, else 0
-abbrev flag : Bool → ℕ
+abbrev pub flag : Bool → ℕ
 flag test = if test then 1 else 0
 
 -- the front of a list has each number at most as often
@@ -17,14 +17,14 @@ times_front g k xs =
     let whole : times g (take k xs ++ drop k xs) ≡ times g xs = ap (times g) (take-append-drop k xs) in
     omega arith
 
-one_if : (a b : ℕ) → a ≡ b → flag (a == b) ≡ 1
+pub one_if : (a b : ℕ) → a ≡ b → flag (a == b) ≡ 1
 one_if a b same = by_test (a == b) (eqb_tells a b) where
   by_test : (test : Bool) → ((test ≡ true) × (a ≡ b)) ⊎ ((test ≡ false) × (a ≢ b)) → flag test ≡ 1
   by_test true told = refl
   by_test false (inl told) = cc
   by_test false (inr told) = absurd (told.1 same)
 
-none_if : (a b : ℕ) → a ≢ b → flag (a == b) ≡ 0
+pub none_if : (a b : ℕ) → a ≢ b → flag (a == b) ≡ 0
 none_if a b other = by_test (a == b) (eqb_tells a b) where
   by_test : (test : Bool) → ((test ≡ true) × (a ≡ b)) ⊎ ((test ≡ false) × (a ≢ b)) → flag test ≡ 0
   by_test true (inl told) = absurd (other told.1)

@@ -1,10 +1,13 @@
 //! A checked circuit is made a plan.
-ghost use Rattle.std.specs.Prelude.{◌≡◌, ◌≤◌, ◌<◌, IfOk, IfErr, None, MatchResult};
+ghost use Rattle.std.specs.Prelude.{◌≡◌, ◌≤◌, ◌<◌, IfOk, IfErr, None};
 ghost use Rattle.flp_syntax.specs.View.{program_of};
-ghost use Rattle.flp_plan.specs.Counted.{most, limit_fault, IsFaultOf};
+ghost use Rattle.flp_plan.specs.Counted.{limit_fault, IsFaultOf, IsSmallCircuit};
+ghost use Rattle.flp_plan.specs.Uses.{AreUsesOf};
+ghost use Rattle.flp_plan.specs.Sums.{AreSumsOf};
 
+use crate::Memory;
 use crate::fault::{PlanCounted, PlanFault};
-use crate::gadgets::{gadget_uses, sums_of};
+use crate::gadgets::{GadgetUse, Sums, gadget_uses, sums_of};
 use crate::lengths::lengths_for;
 use crate::numbers::call_numbers;
 use crate::plan::Plan;
@@ -26,9 +29,48 @@ pub fn compile(alloc: Global, checked: Checked) -> Result<Plan, PlanFault>
 {
     let gadgets = gadget_uses(alloc, &checked)?;
     let sums = sums_of(&gadgets);
-    limit(PlanCounted::Wires, u64::from(sums.wires))?;
+    if let Err(fault) = refuse_large(alloc, &checked, &gadgets, sums) {
+        return Err(fault);
+    }
+    let plan = planned(alloc, checked, gadgets, sums)?;
+    Ok(plan)
+}
+
+/// Refuses a circuit with too many points of wires or too many terms.
+fn refuse_large(
+    alloc: Global,
+    checked: &Checked,
+    uses: &[GadgetUse],
+    sums: Sums,
+) -> Result<(), PlanFault>
+    requires uses { AreUsesOf (program_of checked.now.body) uses.now }
+    requires sums { AreSumsOf uses.now sums }
+    ensures within { IfOk result (λ _. IsSmallCircuit (program_of checked.now.body)) }
+    ensures fault { IfErr result (λ fault. IsFaultOf (program_of checked.now.body) fault) }
+{
+    let wires = u64::from(sums.wires);
+    if wires > MOST {
+        return Err(PlanFault::Limit(PlanCounted::Wires, wires));
+    }
     let terms = term_count(alloc, &checked.body)?;
-    limit(PlanCounted::Terms, terms)?;
+    if terms > MOST {
+        return Err(PlanFault::Limit(PlanCounted::Terms, terms));
+    }
+    Ok(())
+}
+
+/// The plan of a circuit that is not too large.
+fn planned(
+    alloc: Global,
+    checked: Checked,
+    gadgets: Vec<GadgetUse>,
+    sums: Sums,
+) -> Result<Plan, Memory>
+    requires uses { AreUsesOf (program_of checked.body) gadgets.items }
+    requires sums { AreSumsOf gadgets.items sums }
+    requires small { IsSmallCircuit (program_of checked.body) }
+    ensures { IfOk result (λ plan. plan.circuit ≡ program_of checked.body) }
+{
     let lengths = lengths_for(&checked, &gadgets, sums);
     let code = emit(alloc, &checked.body)?;
     let numbers = call_numbers(alloc, code.calls.as_slice(), gadgets.len())?;
@@ -39,14 +81,4 @@ pub fn compile(alloc: Global, checked: Checked) -> Result<Plan, PlanFault>
         lengths,
         code,
     })
-}
-
-/// Refuses a count that is past the limit.
-fn limit(which: PlanCounted, count: u64) -> Result<(), PlanFault>
-    ensures { MatchResult result (λ _. count ≤ most) (λ fault. (most < count) × (fault ≡ PlanFault.Limit which count)) }
-{
-    if count > MOST {
-        return Err(PlanFault::Limit(which, count));
-    }
-    Ok(())
 }

@@ -97,11 +97,20 @@ fn parts_of(held: &GadgetUse) -> Sums
 {
     let arity = held.kind.arity() as u32;
     let degree = held.kind.degree() as u32;
-    let size = 1u32 << held.log;
+    let size = domain_size(held.log);
     Sums {
         prove: arity,
         proof: arity + degree * (size - 1) + 1,
         verifier: arity + 1,
         wires: arity * size,
     }
+}
+
+/// The size of the domain with this exponent.
+fn domain_size(log: u32) -> u32
+    requires { log ≤ 12 }
+    ensures size { result ≡ 2 ^ log }
+    ensures small { result ≤ 4096 }
+{
+    1 << log
 }
