@@ -10,3 +10,4 @@ pub mod LimitLemmas
 pub mod Fitting
 pub mod LinearLemmas
 pub mod VerdictLemmas
+pub mod Firsts

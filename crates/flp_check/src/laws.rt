@@ -1,7 +1,12 @@
 //! What is known of a body that passed, for the layers above.
-ghost use Rattle.std.specs.Prelude.{◌≡◌, ◌≤◌, [], length};
+ghost use Rattle.std.specs.Prelude.{◌≡◌, ◌≤◌, List, [], Some, length};
+ghost use Rattle.flp_syntax.specs.Tree.{Program};
 ghost use Rattle.flp_syntax.specs.View.{program_of};
-ghost use Rattle.flp_check.specs.Flaws.{text_flaws};
+ghost use Rattle.flp_check.specs.Events.{Event};
+ghost use Rattle.flp_check.specs.Counts.{Counts, Reaches};
+ghost use Rattle.flp_check.specs.Verdict.{no_counts};
+ghost use Rattle.flp_check.specs.declared.flaw.Flaw.{Flaw};
+ghost use Rattle.flp_check.specs.Flaws.{first_flaw, text_flaws, IsFirst};
 ghost use Rattle.flp_check.specs.Fits.{IsWithin, BodyFits};
 ghost use Rattle.flp_check.specs.Linear.{BodyIsLinear};
 
@@ -35,3 +40,13 @@ pub fn linear(checked: &Checked)
 {
     let _body = &checked.body;
 }
+
+/// The first flaw of a list is one of it, and none comes before it: by token, and on one token by rule.
+pub fn first_flaw_is_first()
+    ensures { (flaws : List Flaw) (flaw : Flaw) → first_flaw flaws ≡ Some flaw → IsFirst flaws flaw }
+{}
+
+/// Whatever is met, no walk goes past 4,194,304 nodes.
+pub fn few_visits()
+    ensures { (body : Program) (events : List Event) (counts : Counts) → Reaches (no_counts body) events counts → counts.visits ≤ 4194304 }
+{}

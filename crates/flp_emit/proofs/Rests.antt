@@ -1,8 +1,6 @@
 -- What is left of a list, from its next element on.
-use Rattle.std.proofs.Common.{◌≡◌, ℕ, ◌+◌, ◌<◌, List, [], ◌∷◌, ◌++◌, length, map, take, drop, get_or, refl, sym, ap, ◌∙◌, add-one, drop-cons, Some}
-use Rattle.std.specs.Prelude.{slice_get}
-use Rattle.std.proofs.lemmas.List.{take_more, get_or_default}
-use Rattle.std.proofs.lemmas.Option.{slice_get_within, get_or_from_slice_get}
+use Rattle.std.proofs.Common.{◌≡◌, ℕ, ◌+◌, ◌<◌, List, ◌∷◌, length, map, drop, get_or, refl, sym, ap, ◌∙◌, add-one, drop-cons}
+use Rattle.std.proofs.lemmas.List.{get_or_default}
 use Rattle.flp_syntax.specs.Tree.{index_items, indices, index_item_on, index_on, items, trees, arguments, statements, item_on, tree_on, arg_on, stmt_on}
 use Rattle.flp_syntax.specs.View.{index_of, index_item_of, index_item_of_roll, tree_of, item_of, item_of_roll, arg_of, statement_of}
 use Rattle.flp_syntax.specs.declared.syntax.Item.{Item}
@@ -15,11 +13,6 @@ use Rattle.flp_syntax.specs.declared.syntax.Stmt.{Stmt}
 pub rest_next : {A B : Type 0} (view : A → B) (xs : List A) (i : ℕ) (x : A) → i < length xs → x ≡ get_or xs i x
     → map view (drop i xs) ≡ view x ∷ map view (drop (i + 1) xs)
 rest_next view xs i x h e = rw (add-one, drop-cons xs i x h, ← e) refl
-
--- the elements so far and the next one
-pub front_next : {A : Type 0} (xs : List A) (i : ℕ) (x : A) → slice_get xs i ≡ Some x → take (i + 1) xs ≡ take i xs ++ x ∷ []
-front_next xs i x e =
-    take_more xs i x (slice_get_within xs i x e) ∙ ap (λ v. take i xs ++ v ∷ []) (get_or_from_slice_get xs i x x e)
 
 -- an element that is read is the one that is there
 pub same_read : {A : Type 0} (xs : List A) (i : ℕ) (x y : A) → i < length xs → x ≡ get_or xs i x → y ≡ get_or xs i y → x ≡ y

@@ -15,7 +15,8 @@ use std::alloc::Global;
 
 /// The code of a circuit whose indices are in range and whose forms are linear.
 ///
-/// Loops are unrolled: it takes time and memory by the nodes that are met, and stack by the depth of the text.
+/// Loops are unrolled: it takes time and memory by the nodes that are met, and stack by the depth of the text. The one
+/// error is want of memory, and a list of 2^32 public values, calls or inputs counts as that.
 pub fn emit(alloc: Global, body: &Body) -> Result<Code, Memory>
     requires { ProgramFits (program_of body.now) }
     ensures { IfOk result (λ code. Tied (program_of body.now) code) }

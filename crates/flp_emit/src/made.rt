@@ -1,5 +1,5 @@
 //! What is made of a circuit so far.
-ghost use Rattle.std.specs.Prelude.{◌≡◌, ◌++◌, length, IfOk};
+ghost use Rattle.std.specs.Prelude.{◌≡◌, IfOk};
 ghost use Rattle.flp_emit.specs.Emitting.{AppendsCall};
 
 use crate::Memory;
@@ -27,20 +27,10 @@ pub(crate) fn append_call(made: &mut Made, gadget: u32, forms: &Forms) -> Result
 {
     let number = small(made.calls.len())?;
     let first = small(made.inputs.len())?;
-    append(&mut made.inputs, forms)?;
+    made.inputs.append(forms)?;
     let end = small(made.inputs.len())?;
     made.calls.push(CallForms { gadget, first, end })?;
     Ok(number)
-}
-
-/// Appends forms.
-fn append(into: &mut Forms, forms: &Forms) -> Result<(), Memory>
-    ensures { IfOk result (λ _. into.new ≡ into.old ++ forms.now) }
-{
-    for index in 0..forms.len() {
-        into.push(forms.at(index))?;
-    }
-    Ok(())
 }
 
 /// A length as a number of 32 bits: a longer list counts as want of memory.

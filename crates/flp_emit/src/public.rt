@@ -12,7 +12,7 @@ ghost use Rattle.flp_emit.specs.Emitting.{public_part, public_parts, ScalesRun};
 ghost use Rattle.flp_emit.specs.Standing.{Makes};
 
 use crate::Memory;
-use crate::index::index_value;
+use crate::index::{index_value, turns_of};
 use crate::scope::{Bound, Turns, bound_value, inside};
 use crate::sorts::is_shared;
 use crate::value::{added, constant, multiplied, number, raised, scaled, settled, with_sign};
@@ -50,11 +50,7 @@ pub(crate) fn public_step<'a>(
             inner,
             ..
         } => {
-            let over = Turns {
-                name: name.as_slice(),
-                from: index_value(scope, from),
-                to: index_value(scope, to),
-            };
+            let over = turns_of(scope, name, from, to);
             public_turns(alloc, body, scope, steps, over, inner)
         }
         Expr::Add { items, .. } => public_sum(alloc, body, scope, steps, items.as_slice()),

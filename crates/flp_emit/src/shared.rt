@@ -1,5 +1,5 @@
 //! Shared expressions: each becomes terms of a linear form, with a coefficient that is passed down.
-ghost use Rattle.std.specs.Prelude.{◌≡◌, ◌≤◌, ◌<◌, ℕ, true, map, length, IfOk};
+ghost use Rattle.std.specs.Prelude.{◌≡◌, ◌≤◌, ◌<◌, ◌++◌, ◌∷◌, [], ℕ, true, map, length, IfOk};
 ghost use Rattle.std.specs.Option.{unwrap_or};
 ghost use Rattle.flp_syntax.specs.Tree.{items, trees, arguments};
 ghost use Rattle.flp_syntax.specs.Sorts.{is_shared, has_shared};
@@ -13,7 +13,7 @@ ghost use Rattle.flp_emit.specs.Code.{read_by};
 ghost use Rattle.flp_emit.specs.Emitting.{IsReady, Emitted, Listed};
 
 use crate::Memory;
-use crate::index::index_value;
+use crate::index::{index_value, turns_of};
 use crate::made::{Made, append_call};
 use crate::public::{public_scale, public_step};
 use crate::scope::{Bound, Turns, gadget_number, inside};
@@ -44,8 +44,7 @@ pub(crate) fn shared_terms<'a>(
     match expr {
         Expr::Meas { index, .. } => {
             let word = index_value(scope, index);
-            let source = Source::Meas(word);
-            form.push(Term { scale, source })?;
+            add_term(form, scale, Source::Meas(word))?;
             Ok(())
         }
         Expr::MeasOrZero { index, .. } => {
@@ -53,8 +52,7 @@ pub(crate) fn shared_terms<'a>(
             if u64::from(word) >= body.meas {
                 return Ok(());
             }
-            let source = Source::Meas(word);
-            form.push(Term { scale, source })?;
+            add_term(form, scale, Source::Meas(word))?;
             Ok(())
         }
         Expr::Sum {
@@ -64,11 +62,7 @@ pub(crate) fn shared_terms<'a>(
             inner,
             ..
         } => {
-            let over = Turns {
-                name: name.as_slice(),
-                from: index_value(scope, from),
-                to: index_value(scope, to),
-            };
+            let over = turns_of(scope, name, from, to);
             shared_turns(alloc, body, scope, made, form, scale, over, inner)
         }
         Expr::Call { name, args, .. } => {
@@ -86,6 +80,14 @@ pub(crate) fn shared_terms<'a>(
             unreachable!()
         }
     }
+}
+
+/// Adds a term.
+fn add_term(form: &mut Vec<Term>, scale: Scale, source: Source) -> Result<(), Memory>
+    ensures { IfOk result (λ _. form.new.items ≡ form.old.items ++ record { scale = scale; source = source } ∷ []) }
+{
+    form.push(Term { scale, source })?;
+    Ok(())
 }
 
 /// Adds the terms of an expression that stands for a shared one: a public value counts unit times.
@@ -109,9 +111,8 @@ pub(crate) fn counted_terms<'a>(
         Ok(())
     } else {
         let step = public_step(alloc, body, scope, &mut made.steps, expr)?;
-        let scale = scaled(&mut made.steps, scale, step)?;
-        let source = Source::Unit;
-        form.push(Term { scale, source })?;
+        let after = scaled(&mut made.steps, scale, step)?;
+        add_term(form, after, Source::Unit)?;
         Ok(())
     }
 }
@@ -208,8 +209,7 @@ fn shared_call<'a>(
     let mut inputs = Forms::new(alloc);
     list_arguments(alloc, body, scope, made, &mut inputs, args)?;
     let number = append_call(made, gadget, &inputs)?;
-    let source = Source::Answer(number);
-    form.push(Term { scale, source })?;
+    add_term(form, scale, Source::Answer(number))?;
     Ok(())
 }
 
@@ -262,11 +262,7 @@ fn list_argument<'a>(
             inner,
             ..
         } => {
-            let over = Turns {
-                name: name.as_slice(),
-                from: index_value(scope, from),
-                to: index_value(scope, to),
-            };
+            let over = turns_of(scope, name, from, to);
             list_turns(alloc, body, scope, made, inputs, over, inner.as_slice())
         }
     }

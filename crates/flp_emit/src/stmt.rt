@@ -12,7 +12,7 @@ ghost use Rattle.flp_emit.specs.Code.{read_by};
 ghost use Rattle.flp_emit.specs.Emitting.{IsReady, Performed};
 
 use crate::Memory;
-use crate::index::index_value;
+use crate::index::turns_of;
 use crate::made::{Done, Made};
 use crate::scope::{Bound, Turns, inside};
 use crate::shared::{counted_terms, shared_terms};
@@ -65,11 +65,7 @@ fn perform_one<'a>(
             inner,
             ..
         } => {
-            let over = Turns {
-                name: name.as_slice(),
-                from: index_value(scope, from),
-                to: index_value(scope, to),
-            };
+            let over = turns_of(scope, name, from, to);
             perform_turns(alloc, body, scope, made, done, over, inner.as_slice())
         }
     }

@@ -106,6 +106,9 @@ fn a_call_and_a_word_are_a_term_each(rt: HostRuntime) -> Result<(), Fail> {
     let word = term(Scale::MinusOne, Source::Meas(0));
     assert_eq!(rt; code.checks.at(0), [answer, word].as_slice());
     assert_eq!(rt; code.outs.len(), 1);
-    assert_eq!(rt; code.outs.at(0), [term(Scale::One, Source::Meas(0))].as_slice());
+    assert_eq!(rt;
+        code.outs.at(0),
+        [term(Scale::One, Source::Meas(0))].as_slice()
+    );
     Ok(())
 }

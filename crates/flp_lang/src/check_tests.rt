@@ -50,6 +50,8 @@ fn counts_what_is_met(rt: HostRuntime) -> Result<(), Fail> {
         laws::flawless(&checked);
         laws::linear(&checked);
     }
+    laws::first_flaw_is_first();
+    laws::few_visits();
     Ok(())
 }
 

@@ -88,7 +88,7 @@ public_step-public_turns-requires t c = (
     c.requires.joint,
     (
       rw c.deref.ensures (rw (c.in-Sum.is, tree_of_Sum) at c.requires.public),
-      (rw (c.index_value.ensures, c.index_value-in-Sum.ensures, c.as_slice-in-Sum.ensures, c.deref.ensures)
+      (rw (c.turns_of-over.ensures.from, c.turns_of-over.ensures.to, c.turns_of-over.ensures.name, c.deref.ensures)
           (rw (c.in-Sum.is, tree_of_Sum) at c.requires.fits).turns),
     ),
   ),
@@ -136,7 +136,7 @@ public_step-returns-in-Joint t c =
 
 pub public_step-returns-in-Sum : goal.public_step-returns-in-Sum
 public_step-returns-in-Sum t c =
-    rw (c.in-Sum.is, tree_of_Sum, ← c.index_value.ensures, ← c.index_value-in-Sum.ensures, ← c.as_slice-in-Sum.ensures, ← c.deref.ensures)
+    rw (c.in-Sum.is, tree_of_Sum, ← c.turns_of-over.ensures.from, ← c.turns_of-over.ensures.to, ← c.turns_of-over.ensures.name, ← c.deref.ensures)
     c.public_turns.ensures
 
 pub public_step-returns-in-Add : goal.public_step-returns-in-Add

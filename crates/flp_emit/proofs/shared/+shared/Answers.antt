@@ -21,10 +21,10 @@ pub counted_terms-returns-in_ok-shared_terms : goal.counted_terms-returns-in_ok-
 counted_terms-returns-in_ok-shared_terms t c =
     rw (sym c.is_shared.ensures ∙ c.if-is_shared.true) c.in_ok-shared_terms.ensures
 
-pub counted_terms-returns-in_ok-push : goal.counted_terms-returns-in_ok-push
-counted_terms-returns-in_ok-push t c =
-    rw (sym c.is_shared.ensures ∙ c.if-is_shared.false, c.in_ok-push.ensures.items)
-    (emitted_public c.in_ok-step.ensures c.in_ok-scale.ensures)
+pub counted_terms-returns-in_ok-add_term : goal.counted_terms-returns-in_ok-add_term
+counted_terms-returns-in_ok-add_term t c =
+    rw (sym c.is_shared.ensures ∙ c.if-is_shared.false, c.in_ok-add_term.ensures)
+    (emitted_public c.in_ok-step.ensures c.in_ok-after.ensures)
 
 -- ---- arguments
 
@@ -37,7 +37,7 @@ list_argument-list_turns-requires t c = (
   search (rules, the_lemmas),
   (
     c.requires.ready,
-    rw (c.index_value.ensures, c.index_value-in-Each.ensures, c.as_slice.ensures, c.as_slice-in-Each.ensures)
+    rw (c.turns_of-over.ensures.from, c.turns_of-over.ensures.to, c.turns_of-over.ensures.name, c.as_slice.ensures)
         (rw (c.in-Each.is, arg_of_Each) at c.requires.fits).turns,
   ),
 )
@@ -49,7 +49,7 @@ list_argument-returns-in_ok-push-in-One t c =
 
 pub list_argument-returns-in-Each : goal.list_argument-returns-in-Each
 list_argument-returns-in-Each t c =
-    rw (c.in-Each.is, arg_of_Each, ← c.index_value.ensures, ← c.index_value-in-Each.ensures, ← c.as_slice.ensures, ← c.as_slice-in-Each.ensures)
+    rw (c.in-Each.is, arg_of_Each, ← c.turns_of-over.ensures.from, ← c.turns_of-over.ensures.to, ← c.turns_of-over.ensures.name, ← c.as_slice.ensures)
     c.list_turns.ensures
 
 pub list_arguments-loop-arg-preserved : goal.list_arguments-loop-arg-preserved
@@ -87,7 +87,7 @@ list_turns-returns t c =
 
 pub shared_call-returns : goal.shared_call-returns
 shared_call-returns t c =
-    rw c.in_ok-push.ensures.items
+    rw c.in_ok-add_term.ensures
     (emitted_call c.args.scale (rw c.new-inputs.ensures at c.in_ok-list_arguments.ensures) c.in_ok-number.ensures c.requires.scale)
 
 -- ---- products
@@ -181,7 +181,7 @@ shared_terms-shared_turns-requires t c = (
     (
       rw c.deref.ensures (rw (c.in-Sum.is, tree_of_Sum) at c.requires.shared),
       (
-        rw (c.index_value.ensures, c.index_value-in-Sum.ensures, c.as_slice.ensures, c.deref.ensures)
+        rw (c.turns_of-over.ensures.from, c.turns_of-over.ensures.to, c.turns_of-over.ensures.name, c.deref.ensures)
             (rw (c.in-Sum.is, tree_of_Sum) at c.requires.fits).turns,
         c.requires.scale,
       ),
@@ -222,26 +222,26 @@ shared_terms-shared_product-requires t c = (
   ),
 )
 
-pub shared_terms-returns-in_ok-push-in-Meas : goal.shared_terms-returns-in_ok-push-in-Meas
-shared_terms-returns-in_ok-push-in-Meas t c =
-    rw (c.in-Meas.is, tree_of_Meas, ← c.index_value-word.ensures, c.in_ok-push-in-Meas.ensures.items)
+pub shared_terms-returns-in_ok-add_term-in-Meas : goal.shared_terms-returns-in_ok-add_term-in-Meas
+shared_terms-returns-in_ok-add_term-in-Meas t c =
+    rw (c.in-Meas.is, tree_of_Meas, ← c.index_value-word.ensures, c.in_ok-add_term-in-Meas.ensures)
     (emitted_term _ _ _ c.args.scale (Meas c.index_value-word.result) c.requires.scale
     (λ answers. rw c.index_value-word.ensures (rw (c.in-Meas.is, tree_of_Meas) at c.requires.fits).1))
 
-pub shared_terms-returns-in_ok-push-in-MeasOrZero : goal.shared_terms-returns-in_ok-push-in-MeasOrZero
-shared_terms-returns-in_ok-push-in-MeasOrZero t c =
-    rw (c.in-MeasOrZero.is, tree_of_MeasOrZero, ← c.index_value-word-in-MeasOrZero.ensures, c.in_ok-push-in-MeasOrZero.ensures.items)
+pub shared_terms-returns-in_ok-add_term-in-MeasOrZero : goal.shared_terms-returns-in_ok-add_term-in-MeasOrZero
+shared_terms-returns-in_ok-add_term-in-MeasOrZero t c =
+    rw (c.in-MeasOrZero.is, tree_of_MeasOrZero, ← c.index_value-word-in-MeasOrZero.ensures, c.in_ok-add_term-in-MeasOrZero.ensures)
     (emitted_term _ _ _ c.args.scale (Meas c.index_value-word-in-MeasOrZero.result) c.requires.scale
     (λ answers. rw c.from.ensures at c.if-from-body.false))
 
 pub shared_terms-returns-in-Sum : goal.shared_terms-returns-in-Sum
 shared_terms-returns-in-Sum t c =
-    rw (c.in-Sum.is, tree_of_Sum, ← c.index_value.ensures, ← c.index_value-in-Sum.ensures, ← c.as_slice.ensures, ← c.deref.ensures)
+    rw (c.in-Sum.is, tree_of_Sum, ← c.turns_of-over.ensures.from, ← c.turns_of-over.ensures.to, ← c.turns_of-over.ensures.name, ← c.deref.ensures)
     c.shared_turns.ensures
 
 pub shared_terms-returns-in-Call : goal.shared_terms-returns-in-Call
 shared_terms-returns-in-Call t c =
-    let gadget = rw (c.as_slice-in-Call.ensures, c.as_slice-in-Call-2.ensures) at c.gadget_number-gadget.ensures in
+    let gadget = rw (c.as_slice.ensures, c.as_slice-in-Call.ensures) at c.gadget_number-gadget.ensures in
     rw (c.in-Call.is, tree_of_Call, ← gadget, ← c.as_slice-args.ensures) c.shared_call.ensures
 
 pub shared_terms-returns-in-Add : goal.shared_terms-returns-in-Add

@@ -45,7 +45,7 @@ perform_one-perform_turns-requires t c = (
   search (rules, the_lemmas),
   (
     c.requires.ready,
-    rw (c.index_value.ensures, c.index_value-in-Each.ensures, c.as_slice.ensures, c.as_slice-in-Each.ensures)
+    rw (c.turns_of-over.ensures.from, c.turns_of-over.ensures.to, c.turns_of-over.ensures.name, c.as_slice.ensures)
         (rw (c.in-Each.is, statement_of_Each) at c.requires.fits).turns,
   ),
 )
@@ -58,5 +58,5 @@ perform_one-returns-in-Out t c = rw (c.in-Out.is, statement_of_Out) c.perform_ou
 
 pub perform_one-returns-in-Each : goal.perform_one-returns-in-Each
 perform_one-returns-in-Each t c =
-    rw (c.in-Each.is, statement_of_Each, ← c.index_value.ensures, ← c.index_value-in-Each.ensures, ← c.as_slice.ensures, ← c.as_slice-in-Each.ensures)
+    rw (c.in-Each.is, statement_of_Each, ← c.turns_of-over.ensures.from, ← c.turns_of-over.ensures.to, ← c.turns_of-over.ensures.name, ← c.as_slice.ensures)
     c.perform_turns.ensures
