@@ -1,0 +1,16 @@
+pub mod CallLemmas
+pub mod CompileLemmas
+pub mod EvenLemmas
+pub mod FitLemmas
+pub mod FormLemmas
+pub mod KindLemmas
+pub mod NumberLemmas
+pub mod OutLemmas
+pub mod PassedLemmas
+pub mod ResultLemmas
+pub mod SharesLemmas
+pub mod TermLemmas
+pub mod TiedLemmas
+pub mod TimesLemmas
+pub mod UseLemmas
+pub mod WalkLemmas
