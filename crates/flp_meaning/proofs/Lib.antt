@@ -23,3 +23,5 @@ pub mod Decisions
 pub mod Honest
 -- verifiers of shares
 pub mod Verifiers
+-- worked examples
+pub mod Examples

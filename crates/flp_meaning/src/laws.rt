@@ -9,6 +9,7 @@ ghost use Rattle.flp_meaning.specs.LinearLaws.{VerifiersHaveLength, VerifiersAdd
 ghost use Rattle.flp_meaning.specs.ProofLaws.{FirstIsFound, LeastPower, CallsAreNumbered, DomainsHold, WiresRunThrough};
 ghost use Rattle.flp_meaning.specs.ProofLaws.{HonestProofHasLength, HonestProofHasParts, HonestProofAnswers};
 ghost use Rattle.flp_meaning.specs.ProofLaws.{HonestProofProves, HonestProofIsAccepted, DecisionsMean, TrueProofsAreDirect};
+ghost use Rattle.flp_meaning.specs.Examples.{CountExample, CubeExample, HalfExample, HistogramExample};
 
 /// Two ways to answer that agree on the calls that are made give the same checks, outs and calls. If they
 /// agree on the first k calls, the calls up to the next one are the same.
@@ -100,4 +101,13 @@ pub fn decisions()
 /// answers, the circuit, read with these answers, is the circuit in the direct reading.
 pub fn true_proofs()
     ensures { TrueProofsAreDirect }
+{}
+
+/// What the definitions give for Count, with its honest proof, verifier and share at the point 2; for a circuit
+/// with a call inside a call; for a public constant on half a share; and for a histogram of four buckets.
+pub fn examples()
+    ensures count { CountExample }
+    ensures cube { CubeExample }
+    ensures half { HalfExample }
+    ensures histogram { HistogramExample }
 {}
