@@ -8,3 +8,5 @@ pub mod TransformLemmas
 pub mod CallLemmas
 -- the coefficients of a gadget at its wires
 pub mod PolynomialLemmas
+-- where parts begin
+pub mod StartLemmas

@@ -1,5 +1,5 @@
 //! The values of the calls, which are the answers of an honest proof.
-ghost use Rattle.std.specs.Prelude.{◌≡◌, ℕ, ◌<◌, List, length, slice_index};
+ghost use Rattle.std.specs.Prelude.{◌≡◌, ℕ, ◌<◌, ◌≤◌, List, length, take, slice_index};
 ghost use Rattle.flp_meaning.specs.Gadgets.{call_count};
 ghost use Rattle.flp_meaning.specs.MeaningLaws.{call_values};
 ghost use Rattle.flp_plan.specs.View.{publics_of};
@@ -9,10 +9,28 @@ use flp_gadget::Gadget;
 use flp_meaning::laws as meaning;
 use flp_plan::{Plan, laws};
 
-/// Writes the values of the calls, one after another, to `answers`, which has a place for each.
+/// Writes the values of the calls, one after another, to the front of `answers`.
 ///
 /// `inputs` has room for the inputs of any gadget.
 pub(crate) fn write_answers(
+    plan: &Plan,
+    publics: &[Fe],
+    x: &[Fe],
+    inputs: &mut [Fe],
+    answers: &mut [Fe],
+)
+    requires publics { length publics.now ≡ length plan.now.steps }
+    requires x { length x.now ≡ plan.now.circuit.meas }
+    requires inputs { length inputs.old ≡ 1024 }
+    requires answers { call_count plan.now.circuit ≤ length answers.old }
+    ensures { (joint : List ℕ) → publics.now ≡ publics_of plan.now joint → take (call_count plan.now.circuit) answers.new ≡ call_values plan.now.circuit x.now joint }
+{
+    let count = plan.call_count() as usize;
+    write_all(plan, publics, x, inputs, &mut answers[..count]);
+}
+
+/// Writes the values of the calls to `answers`, which has a place for each.
+fn write_all(
     plan: &Plan,
     publics: &[Fe],
     x: &[Fe],

@@ -53,13 +53,19 @@ impl Prover {
         ensures { IfOk result (λ prover. Serves prover plan.now) }
     {
         let words = words_for(plan);
+        let publics = vec![in alloc; Fe::ZERO; plan.publics_len() as usize]?;
+        let answers = vec![in alloc; Fe::ZERO; MOST_CALLS]?;
+        let inputs = vec![in alloc; Fe::ZERO; MOST_INPUTS]?;
+        let rows = vec![in alloc; Fe::ZERO; words.rows]?;
+        let wires = vec![in alloc; Fe::ZERO; words.wires]?;
+        let values = vec![in alloc; Fe::ZERO; words.values]?;
         Ok(Prover {
-            publics: vec![in alloc; Fe::ZERO; plan.publics_len() as usize]?,
-            answers: vec![in alloc; Fe::ZERO; MOST_CALLS]?,
-            inputs: vec![in alloc; Fe::ZERO; MOST_INPUTS]?,
-            rows: vec![in alloc; Fe::ZERO; words.rows]?,
-            wires: vec![in alloc; Fe::ZERO; words.wires]?,
-            values: vec![in alloc; Fe::ZERO; words.values]?,
+            publics,
+            answers,
+            inputs,
+            rows,
+            wires,
+            values,
         })
     }
 
@@ -79,12 +85,17 @@ impl Prover {
     {
         laws::is_within_limits(plan);
         plan.publics(joint, &mut self.publics);
-        let answers = &mut self.answers[..plan.call_count() as usize];
-        write_answers(plan, &self.publics, x, &mut self.inputs, answers);
+        write_answers(
+            plan,
+            &self.publics,
+            x,
+            &mut self.inputs,
+            &mut self.answers,
+        );
         let reading = Reading {
             publics: &self.publics,
             x,
-            answers,
+            answers: &self.answers[..plan.call_count() as usize],
         };
         write_parts(
             plan,

@@ -5,44 +5,62 @@ use Rattle.flp_meaning.specs.Circuit.{calls_of, direct}
 use Rattle.flp_meaning.specs.Gadgets.{arity_of, size_of, calls_made, times, gadgets_called, calls_to, call_count, call_gadget}
 use Rattle.flp_prove.specs.Rows.{joined, seeds_and_inputs, HaveLength}
 use Rattle.flp_prove.proofs.JoinedLemmas.{part-written, joined-push, length-push}
-use Rattle.flp_prove.proofs.CallLemmas.{calls-other, rows-more, times-more, room-for_call}
+use Rattle.flp_prove.proofs.CallLemmas.{calls-other, rows-more, times-more, row-fits}
 use Rattle.flp_prove.proofs.rows.write_rows.Goals as goal
 use Rattle.flp_prove.proofs.rows.write_rows.Goals.{then-call_gadget-gadget, else-call_gadget-gadget}
 
-one-more : (next size width n : ℕ) → next + 1 ≤ size → n ≡ size * width → next * width + width ≤ n
-one-more next size width n fits whole =
-    let more : (next + 1) * width ≤ size * width = grind arith in
-    omega arith
-
 pub slice_bounds-write_inputs-end : goal.slice_bounds-write_inputs-end
 slice_bounds-write_inputs-end c =
-    let same : eqb (call_gadget c.args.plan.now.circuit c.loop-call.call) c.args.gadget ≡ true = eq-eqb _ _ (sym c.call_gadget.ensures ∙ c.if-call_gadget-gadget.true) in
-    let room : times c.args.gadget (take c.loop-call.call (gadgets_called c.args.plan.now.circuit)) + 1 ≤ calls_made c.args.plan.now.circuit c.args.gadget =
-    room-for_call c.args.plan.now.circuit c.args.gadget c.loop-call.call (omega arith) same in
-    let points : calls_made c.args.plan.now.circuit c.args.gadget + 1 ≤ size_of c.args.plan.now.circuit c.args.gadget =
-    (c.is_within_limits.ensures.gadgets c.args.gadget c.requires.gadget).room_for_calls in
-    let first : c.loop-call.next ≡ 1 + times c.args.gadget (take c.loop-call.call (gadgets_called c.args.plan.now.circuit)) = c.loop-call.invariant.next in
-    let width : length c.args.seeds.now ≡ arity_of c.args.plan.now.circuit c.args.gadget = c.requires.seeds in
     let fits : c.loop-call.next * length c.args.seeds.now + length c.args.seeds.now ≤ length c.args.rows.now =
-    one-more c.loop-call.next (size_of c.args.plan.now.circuit c.args.gadget) (length c.args.seeds.now) (length c.args.rows.now) (omega arith)
-    (c.requires.room ∙ ap (λ (n : ℕ). size_of c.args.plan.now.circuit c.args.gadget * n) (sym width)) in
+    row-fits c.args.plan.now.circuit c.args.gadget c.loop-call.call c.loop-call.next (length c.args.seeds.now) (length c.args.rows.now) (omega arith)
+    (eq-eqb _ _ (sym c.call_gadget.ensures ∙ c.if-call_gadget-gadget.true))
+    (c.is_within_limits.ensures.gadgets c.args.gadget c.requires.gadget).room_for_calls c.loop-call.invariant.next c.requires.seeds c.requires.room in
     omega (arith, fits)
 
 pub loop-call-preserved : goal.loop-call-preserved
 loop-call-preserved c =
     elim c.if-call_gadget-gadget.branch [
       then-call_gadget-gadget w ↦
-        let same : eqb (call_gadget c.args.plan.now.circuit c.loop-call.call) c.args.gadget ≡ true = eq-eqb _ _ (sym c.call_gadget.ensures ∙ w.if-call_gadget-gadget.true) in
+        let body = c.args.plan.now.circuit in
+        let g : ℕ = c.args.gadget in
+        let call : ℕ = c.loop-call.call in
+        let width : ℕ = length c.args.seeds.now in
+        let low : call < call_count body = omega (arith, c.loop-call-test.true) in
+        let same : eqb (call_gadget body call) g ≡ true = eq-eqb _ _ (sym c.call_gadget.ensures ∙ w.if-call_gadget-gadget.true) in
+        let fits : c.loop-call.next * width + width ≤ length c.args.rows.now =
+        row-fits body g call c.loop-call.next width (length c.args.rows.now) low same
+        (c.is_within_limits.ensures.gadgets g c.requires.gadget).room_for_calls c.loop-call.invariant.next c.requires.seeds c.requires.room in
+        let count : length w.write_inputs.new.row ≡ width = omega (arith, fits, w.write_inputs.auto.row) in
         record {
-          next = omega (arith, w.next-is, c.loop-call.invariant.next, times-more c.args.plan.now.circuit c.args.gadget c.loop-call.call true (omega arith) same);
-          widths = λ joint publics answers. ?;
-          rows = λ joint publics answers. ?;
+          next = omega (arith, w.next-is, c.loop-call.invariant.next, times-more body g call true low same);
+          widths = λ joint publics answers.
+              let before : List (List ℕ) = seeds_and_inputs c.args.seeds.now (calls_to g (take call (calls_of body (direct body c.args.reading.now.x.now joint)))) in
+              subst (λ (l : List (List ℕ)). HaveLength width l)
+              (sym (rows-more body c.args.reading.now.x.now joint g call w.write_inputs.new.row low (w.write_inputs.ensures joint publics answers) c.args.seeds.now same))
+              (length-push width before w.write_inputs.new.row (c.loop-call.invariant.widths joint publics answers) count);
+          rows = λ joint publics answers.
+              let before : List (List ℕ) = seeds_and_inputs c.args.seeds.now (calls_to g (take call (calls_of body (direct body c.args.reading.now.x.now joint)))) in
+              ap₂ (λ (n : ℕ) (l : List ℕ). take (n * width) l) w.next-is w.rows-is
+              ∙ part-written (c.loop-call.next * width) _ c.loop-call.rows w.write_inputs.new.row (joined before) ((c.loop-call.next + 1) * width)
+              (c.loop-call.invariant.rows joint publics answers) (omega arith) (omega arith)
+              ∙ sym
+              (ap joined (rows-more body c.args.reading.now.x.now joint g call w.write_inputs.new.row low (w.write_inputs.ensures joint publics answers) c.args.seeds.now same)
+              ∙ joined-push before w.write_inputs.new.row);
         }
     | else-call_gadget-gadget w ↦
-        let other : eqb (call_gadget c.args.plan.now.circuit c.loop-call.call) c.args.gadget ≡ false = ? in
+        let body = c.args.plan.now.circuit in
+        let g : ℕ = c.args.gadget in
+        let call : ℕ = c.loop-call.call in
+        let low : call < call_count body = omega (arith, c.loop-call-test.true) in
+        let other : eqb (call_gadget body call) g ≡ false = ne_eqb _ _ (λ (e : call_gadget body call ≡ g). w.if-call_gadget-gadget.false (c.call_gadget.ensures ∙ e)) in
         record {
-          next = omega (arith, w.next-is, c.loop-call.invariant.next, times-more c.args.plan.now.circuit c.args.gadget c.loop-call.call false (omega arith) other);
-          widths = λ joint publics answers. ?;
-          rows = λ joint publics answers. ?;
+          next = omega (arith, w.next-is, c.loop-call.invariant.next, times-more body g call false low other);
+          widths = λ joint publics answers.
+              subst (λ (l : List Call). HaveLength (length c.args.seeds.now) (seeds_and_inputs c.args.seeds.now l))
+              (sym (calls-other body c.args.reading.now.x.now joint g call low other)) (c.loop-call.invariant.widths joint publics answers);
+          rows = λ joint publics answers.
+              ap₂ (λ (n : ℕ) (l : List ℕ). take (n * length c.args.seeds.now) l) w.next-is w.rows-is
+              ∙ c.loop-call.invariant.rows joint publics answers
+              ∙ sym (ap (λ (l : List Call). joined (seeds_and_inputs c.args.seeds.now l)) (calls-other body c.args.reading.now.x.now joint g call low other));
         }
     ]

@@ -1,7 +1,7 @@
 use Rattle.std.proofs.Common.{ℕ, ◌≡◌, ◌<◌, List, get_or}
 use Rattle.flp_meaning.specs.MeaningLaws.{call_values}
 use Rattle.flp_plan.specs.View.{publics_of}
-use Rattle.flp_prove.proofs.answers.write_answers.Given as goal
+use Rattle.flp_prove.proofs.answers.write_all.Given as goal
 
 abbrev pub invariant-loop-call : goal.invariant-loop-call
 invariant-loop-call l =
