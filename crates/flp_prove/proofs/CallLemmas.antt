@@ -1,9 +1,8 @@
 -- Calls in the direct reading: their values, and the rows of a gadget one call after another.
-use Rattle.std.proofs.Common.{ℕ, zero, suc, ◌≡◌, ◌+◌, ◌-◌, ◌*◌, ◌<◌, ◌≤◌, Bool, true, false, cond, List, [], ◌∷◌, ◌++◌, length, take, map, get_or, Some, refl, ap, ap₂, sym, subst, ◌∙◌, arith, eqb, add-one}
-use Rattle.std.specs.List.{slice_get, filter}
+use Rattle.std.proofs.Common.{ℕ, ◌≡◌, ◌+◌, ◌*◌, ◌<◌, ◌≤◌, Bool, true, false, cond, List, [], ◌∷◌, ◌++◌, length, take, get_or, ap, sym, ◌∙◌, arith, eqb}
+use Rattle.std.specs.List.{slice_get}
 use Rattle.std.specs.Prelude.{slice_index}
-use Rattle.std.proofs.lemmas.Bool.{eq-eqb}
-use Rattle.std.proofs.lemmas.List.{get_or-map, get_or-take, append-nil, map_push, take_all, length-map}
+use Rattle.std.proofs.lemmas.List.{get_or-map, get_or-take, append-nil, map_push}
 use Rattle.std.proofs.lemmas.List.Elements.{filter_more}
 use Rattle.std.proofs.lemmas.List.Filters.{length-filter_more}
 use Rattle.std.proofs.lemmas.Option.{get_or_from_slice_get}
@@ -18,8 +17,7 @@ use Rattle.flp_meaning.proofs.Fixed.{gadgets_are_fixed}
 use Rattle.flp_meaning.proofs.WireLemmas.{calls_size}
 use Rattle.flp_plan.specs.View.{HasInputs}
 use Rattle.flp_plan.proofs.TimesLemmas.{times_front}
-use Rattle.flp_prove.specs.Rows.{joined, seeds_and_inputs, HaveLength}
-use Rattle.flp_prove.proofs.JoinedLemmas.{joined-push, length-push}
+use Rattle.flp_prove.specs.Rows.{seeds_and_inputs}
 
 -- the call of these inputs
 abbrev pub the_call : Program → ℕ → List ℕ → Call

@@ -1,12 +1,12 @@
 -- The coefficients of a gadget at its wires, from the rows that these run through.
-use Rattle.std.proofs.Common.{ℕ, zero, suc, ◌≡◌, ◌+◌, ◌-◌, ◌*◌, ◌^◌, ◌<◌, ◌≤◌, List, [], ◌∷◌, length, take, map, get_or, refl, ap, sym, subst, ◌∙◌, arith}
+use Rattle.std.proofs.Common.{ℕ, ◌≡◌, ◌+◌, ◌*◌, ◌<◌, ◌≤◌, List, [], ◌∷◌, length, take, map, get_or, ap, sym, ◌∙◌, arith}
 use Rattle.std.specs.List.{range_with_len}
 use Rattle.std.specs.Prelude.{slice_index}
 use Rattle.std.proofs.lemmas.Nat.{pow_pos}
-use Rattle.std.proofs.lemmas.List.{ext_get_or, get_or-take, get_or-map, length-map}
+use Rattle.std.proofs.lemmas.List.{ext_get_or, get_or-take, length-map}
 use Rattle.std.proofs.lemmas.List.Elements.{All-map}
-use Rattle.std.proofs.lemmas.List.FromFn.{length-map-range_with_len, get_or-map-range_with_len, length-range_with_len}
-use Rattle.flp_field.specs.Word.{AreWords, word_power}
+use Rattle.std.proofs.lemmas.List.FromFn.{length-map-range_with_len, get_or-map-range_with_len}
+use Rattle.flp_field.specs.Word.{word_power}
 use Rattle.flp_field.specs.Domain.{alpha}
 use Rattle.flp_poly.specs.Polynomial.{value_at, values_on}
 use Rattle.flp_poly.specs.Interpolation.{Interpolates, interpolated}

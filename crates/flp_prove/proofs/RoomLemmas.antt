@@ -1,5 +1,5 @@
 -- The working room of a prover.
-use Rattle.std.proofs.Common.{ℕ, suc, ◌≡◌, ◌+◌, ◌-◌, ◌*◌, ◌^◌, ◌<◌, ◌≤◌, refl, ap, ap₂, sym, subst, ◌∙◌, arith, length, lit<, ⊎_elim}
+use Rattle.std.proofs.Common.{ℕ, suc, ◌≡◌, ◌+◌, ◌-◌, ◌*◌, ◌^◌, ◌<◌, ◌≤◌, refl, ap, ap₂, subst, ◌∙◌, arith, length, lit<, ⊎_elim}
 use Rattle.std.specs.Int.{IsPowerOfTwo}
 use Rattle.std.specs.Prelude.{max, ◌/◌}
 use Rattle.std.proofs.Math.Nat.{pow-suc, pow-le-pow_right}
@@ -9,7 +9,7 @@ use Rattle.flp_gadget.specs.KindTree as tree
 use Rattle.flp_meaning.specs.Circuit.{kind_of}
 use Rattle.flp_meaning.specs.Gadgets.{calls_made, ceil_log}
 use Rattle.flp_meaning.specs.ProofLaws.{LeastPower}
-use Rattle.flp_prove.specs.Room.{IsEnough, Serves, ServesAlike}
+use Rattle.flp_prove.specs.Room.{IsEnough, ServesAlike}
 
 -- what is enough, by the kind of a gadget and its calls
 enough : (kind : KindTree) (calls rows wires values : ℕ) → Type 0
@@ -26,10 +26,10 @@ serves_alike room one other alike serves = record {
       let here : gadget < length one.circuit.gadgets = omega (arith, alike.gadgets) in
       let old : IsEnough one.circuit gadget room.rows room.wires room.values = serves.gadgets gadget here in
       let same : enough (kind_of one.circuit gadget) (calls_made one.circuit gadget) room.rows room.wires room.values
-          ≡ enough (kind_of other.circuit gadget) (calls_made other.circuit gadget) room.rows room.wires room.values =
-          ap₂ (λ (kind : KindTree) (calls : ℕ). enough kind calls room.rows room.wires room.values) (alike.kinds gadget here) (alike.calls gadget here) in
+      ≡ enough (kind_of other.circuit gadget) (calls_made other.circuit gadget) room.rows room.wires room.values =
+      ap₂ (λ (kind : KindTree) (calls : ℕ). enough kind calls room.rows room.wires room.values) (alike.kinds gadget here) (alike.calls gadget here) in
       let new : enough (kind_of other.circuit gadget) (calls_made other.circuit gadget) room.rows room.wires room.values =
-          subst (λ (T : Type 0). T) same (old.for_rows, old.for_wires, old.for_values) in
+      subst (λ (T : Type 0). T) same (old.for_rows, old.for_wires, old.for_values) in
       record { for_rows = new.0; for_wires = new.1; for_values = new.2 };
 }
 

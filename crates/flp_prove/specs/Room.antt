@@ -1,6 +1,5 @@
 -- The working room of a prover, and for which plans it serves. From a gadget up to the law.
 use Rattle.std.specs.Prelude.{ℕ, ◌≡◌, ◌*◌, ◌^◌, ◌<◌, ◌≤◌, length}
-use Rattle.flp_gadget.specs.KindTree.{KindTree}
 use Rattle.flp_syntax.specs.Tree.{Program}
 use Rattle.flp_meaning.specs.Circuit.{kind_of}
 use Rattle.flp_meaning.specs.Gadgets.{arity_of, size_of, ceil_log, calls_made, check_count}

@@ -30,13 +30,7 @@ pub(crate) fn write_answers(
 }
 
 /// Writes the values of the calls to `answers`, which has a place for each.
-fn write_all(
-    plan: &Plan,
-    publics: &[Fe],
-    x: &[Fe],
-    inputs: &mut [Fe],
-    answers: &mut [Fe],
-)
+fn write_all(plan: &Plan, publics: &[Fe], x: &[Fe], inputs: &mut [Fe], answers: &mut [Fe])
     requires publics { length publics.now ≡ length plan.now.steps }
     requires x { length x.now ≡ plan.now.circuit.meas }
     requires inputs { length inputs.old ≡ 1024 }

@@ -13,6 +13,7 @@
 #![tactic(auto)]
 
 mod answers;
+pub mod laws;
 mod part;
 mod prover;
 mod reading;
@@ -20,7 +21,6 @@ mod rows;
 mod sizes;
 mod values;
 mod wires;
-pub mod laws;
 
 pub use prover::Prover;
 /// Want of memory.

@@ -131,7 +131,14 @@ fn write_polynomial(
     let rows = &mut rows[..size * arity];
     write_rows(plan, gadget, reading, seeds, rows);
     let wires = &mut wires[..arity * points];
-    write_wires(rows, arity, plan.calls(gadget) as usize + 1, size, points, wires);
+    write_wires(
+        rows,
+        arity,
+        plan.calls(gadget) as usize + 1,
+        size,
+        points,
+        wires,
+    );
     let values = &mut values[..points];
     write_values(plan.kind(gadget), wires, inputs, values);
     inverse(values);

@@ -85,13 +85,7 @@ impl Prover {
     {
         laws::is_within_limits(plan);
         plan.publics(joint, &mut self.publics);
-        write_answers(
-            plan,
-            &self.publics,
-            x,
-            &mut self.inputs,
-            &mut self.answers,
-        );
+        write_answers(plan, &self.publics, x, &mut self.inputs, &mut self.answers);
         let reading = Reading {
             publics: &self.publics,
             x,

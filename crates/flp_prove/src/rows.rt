@@ -13,13 +13,7 @@ use flp_plan::{Plan, laws};
 
 /// Writes the rows of a gadget to the front of `rows`, which has a row for each point of its domain. There is a
 /// row for the seeds, and one for each call.
-pub(crate) fn write_rows(
-    plan: &Plan,
-    gadget: u32,
-    reading: &Reading,
-    seeds: &[Fe],
-    rows: &mut [Fe],
-)
+pub(crate) fn write_rows(plan: &Plan, gadget: u32, reading: &Reading, seeds: &[Fe], rows: &mut [Fe])
     requires gadget { gadget < length plan.now.circuit.gadgets }
     requires publics { length reading.now.publics.now ≡ length plan.now.steps }
     requires x { length reading.now.x.now ≡ plan.now.circuit.meas }

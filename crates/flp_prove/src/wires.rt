@@ -32,19 +32,19 @@ pub(crate) fn write_wires(
 {
     for input in 0..arity {
         let start = input * points;
-        write_wire(rows, arity, input, count, size, &mut wires[start..start + points]);
+        write_wire(
+            rows,
+            arity,
+            input,
+            count,
+            size,
+            &mut wires[start..start + points],
+        );
     }
 }
 
 /// Writes the values of the wire of one column.
-fn write_wire(
-    rows: &[Fe],
-    arity: usize,
-    input: usize,
-    count: usize,
-    size: usize,
-    wire: &mut [Fe],
-)
+fn write_wire(rows: &[Fe], arity: usize, input: usize, count: usize, size: usize, wire: &mut [Fe])
     requires rows { count * arity ≤ length rows.now }
     requires input { input < arity }
     requires count { count ≤ size }

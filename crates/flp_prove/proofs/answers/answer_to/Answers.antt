@@ -1,4 +1,4 @@
-use Rattle.std.proofs.Common.{ℕ, ◌≡◌, ◌∙◌, List, ap}
+use Rattle.std.proofs.Common.{ℕ, ◌∙◌, ap}
 use Rattle.flp_gadget.specs.KindTree.{KindTree, value_of}
 use Rattle.flp_meaning.specs.Circuit.{kind_of}
 use Rattle.flp_prove.proofs.CallLemmas.{value-of_call}

@@ -1,8 +1,8 @@
-use Rattle.std.proofs.Common.{ℕ, ◌≡◌, ◌+◌, ◌-◌, ◌*◌, ◌<◌, ◌≤◌, ◌∙◌, List, ◌++◌, length, take, drop, sym, ap, ap₂, arith}
+use Rattle.std.proofs.Common.{ℕ, ◌≡◌, ◌+◌, ◌-◌, ◌≤◌, ◌∙◌, List, ◌++◌, length, take, drop, sym, ap, ap₂, arith}
 use Rattle.std.specs.List.{range_with_len, flat_map, sum_by}
 use Rattle.flp_meaning.specs.Gadgets.{arity_of}
-use Rattle.flp_meaning.specs.Lengths.{start_of, proof_part, coefficient_count}
-use Rattle.flp_meaning.specs.Proof.{honest_part, seeds_for}
+use Rattle.flp_meaning.specs.Lengths.{start_of, proof_part}
+use Rattle.flp_meaning.specs.Proof.{honest_part}
 use Rattle.flp_prove.proofs.JoinedLemmas.{part-written}
 use Rattle.flp_prove.proofs.StartLemmas.{start-more, start-inside, flat-more}
 use Rattle.flp_prove.proofs.part.write_parts.Goals as goal

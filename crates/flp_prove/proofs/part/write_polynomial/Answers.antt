@@ -1,4 +1,4 @@
-use Rattle.std.proofs.Common.{ℕ, ◌≡◌, ◌+◌, ◌*◌, ◌<◌, ◌≤◌, ◌∙◌, List, length, take, map, sym, subst, ap, ap₂, arith}
+use Rattle.std.proofs.Common.{ℕ, ◌≡◌, ◌+◌, ◌*◌, ◌∙◌, List, length, take, map, sym, ap, ap₂, arith}
 use Rattle.std.specs.List.{range_with_len}
 use Rattle.std.proofs.lemmas.List.{length-take-le}
 use Rattle.flp_poly.specs.Polynomial.{values_on}
@@ -8,10 +8,9 @@ use Rattle.flp_gadget.specs.KindTree as tree
 use Rattle.flp_meaning.specs.Meaning.{Call}
 use Rattle.flp_meaning.specs.Circuit.{calls_of, direct, kind_of}
 use Rattle.flp_meaning.specs.Gadgets.{arity_of, size_of, calls_made, calls_to}
-use Rattle.flp_meaning.specs.Lengths.{coefficient_count}
 use Rattle.flp_meaning.specs.Wires.{filled}
 use Rattle.flp_meaning.proofs.Fixed.{calls_are_fixed}
-use Rattle.flp_prove.specs.Rows.{joined, column, across, seeds_and_inputs, HaveLength}
+use Rattle.flp_prove.specs.Rows.{joined, column, across, seeds_and_inputs}
 use Rattle.flp_prove.proofs.PolynomialLemmas.{formula, values-formula, formula-back}
 use Rattle.flp_prove.proofs.part.write_polynomial.Goals as goal
 

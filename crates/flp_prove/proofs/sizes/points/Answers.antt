@@ -1,4 +1,4 @@
-use Rattle.std.proofs.Common.{ℕ, ◌≡◌, ◌+◌, ◌*◌, ◌^◌, ◌<◌, ◌≤◌, ◌∙◌, ap, sym, arith}
+use Rattle.std.proofs.Common.{ℕ, ◌≡◌, ◌^◌, ◌≤◌, ◌∙◌, ap, arith}
 use Rattle.flp_meaning.specs.Gadgets.{ceil_log}
 use Rattle.flp_meaning.specs.Lengths.{coefficient_count}
 use Rattle.flp_prove.specs.Room.{points_of}

@@ -1,4 +1,4 @@
-use Rattle.std.proofs.Common.{ℕ, ◌≡◌, ◌+◌, ◌*◌, ◌<◌, ◌≤◌, ◌≢◌, ◌∙◌, List, length, get_or, sym, arith, below_more}
+use Rattle.std.proofs.Common.{ℕ, ◌≡◌, ◌+◌, ◌*◌, ◌<◌, ◌≤◌, ◌∙◌, length, get_or, sym, arith, below_more}
 use Rattle.std.proofs.lemmas.List.{get_or-set_same, get_or-set_other, get_or_read}
 use Rattle.std.proofs.lemmas.List.FromFn.{fill_by_all}
 use Rattle.flp_prove.specs.Rows.{column}
@@ -14,7 +14,7 @@ loop-place-preserved c =
     ∙ c.loop-place.invariant k low)
     (get_or-set_same c.loop-place.out c.loop-place.place c.if-place-count.value 0 (omega arith)
     ∙ elim c.if-place-count.branch [
-        then-place-count w ↦
+      | then-place-count w ↦
           let low : c.loop-place.place < c.args.count = w.if-place-count.true in
           w.value-is
           ∙ get_or_read c.args.rows.now (c.loop-place.place * c.args.arity + c.args.input) w.index-rows-place.result

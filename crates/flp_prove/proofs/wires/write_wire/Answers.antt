@@ -1,4 +1,4 @@
-use Rattle.std.proofs.Common.{ℕ, ◌≡◌, ◌≤◌, List, length, arith}
+use Rattle.std.proofs.Common.{ℕ, ◌≡◌, List, length, arith}
 use Rattle.flp_prove.specs.Rows.{column}
 use Rattle.flp_prove.proofs.JoinedLemmas.{length-column}
 use Rattle.flp_prove.proofs.TransformLemmas.{wire-transformed}

@@ -1,4 +1,4 @@
-use Rattle.std.proofs.Common.{ℕ, ◌≡◌, ◌+◌, ◌-◌, ◌*◌, ◌<◌, ◌≤◌, ◌∙◌, List, ◌++◌, length, take, map, sym, ap, arith}
+use Rattle.std.proofs.Common.{ℕ, ◌≡◌, ◌+◌, ◌-◌, ◌*◌, ◌≤◌, ◌∙◌, List, ◌++◌, length, map, sym, ap, arith}
 use Rattle.std.specs.List.{range_with_len}
 use Rattle.flp_poly.specs.Polynomial.{values_on}
 use Rattle.flp_poly.specs.Interpolation.{interpolated}
