@@ -113,7 +113,7 @@ after_call w b gadget f f' df n k h =
     ))
     (cases_lt k (length c))
 
-decided : (w : Reading) (b : ℕ → Call → ℕ) → Passes w (answering w b) (Decided w.answer b)
+decided : (w : Reading) (b : ℕ → Call → ℕ) → Passes w (answering w b) (Decided w.answer b) (λ _ _ _. Unit {0})
 unfolding Decided
 decided w b = record {
   alike = λ A value n k h. (refl, λ all. refl);
@@ -128,14 +128,15 @@ decided w b = record {
     λ all. ap (λ (z : Meant ℕ). let r : Meant ℕ = record { value = w.unit * z.value; calls = z.calls } in r) ((h n k agree).1 all),
   );
   in_order = in_order w.answer b;
-  after_call = after_call w b;
+  after_call = λ gadget f g some. after_call w b gadget f g;
 }
 
 whole_circuit : (body : Program) (w : Reading) (b : ℕ → Call → ℕ) (k : ℕ) → AgreeOn w.answer b 0 (take k (calls_of body w))
     → (take (suc k) (calls_of body (answering w b)) ≡ take (suc k) (calls_of body w))
     × (length (calls_of body w) ≤ k → circuit_of body (answering w b) ≡ circuit_of body w)
 unfolding Decided
-whole_circuit body w b k h = circuit_passes w (answering w b) (Decided w.answer b) (decided w b) body 0 k h
+whole_circuit body w b k h =
+    circuit_passes body.gadgets w (answering w b) (Decided w.answer b) (λ _ _ _. Unit {0}) (decided w b) (λ _ _ _. tt) body.stmts 0 k h
 
 pub answers_decide : AnswersDecide
 answers_decide body w b h =
@@ -148,7 +149,7 @@ earlier_answers_decide body w b k h =
     subst (λ j. take j (calls_of body (answering w b)) ≡ take j (calls_of body w)) next (whole_circuit body w b k h).0
 
 -- answers by their places, against values of the calls
-agree-places : (value : Call → ℕ) (answers : List ℕ) (n : ℕ) (calls : List Call)
+pub agree-places : (value : Call → ℕ) (answers : List ℕ) (n : ℕ) (calls : List Call)
     → ((k : ℕ) → k < length calls → slice_index answers (n + k) ≡ slice_index (map value calls) k)
     → AgreeOn (λ m call. value call) (λ m call. slice_index answers m) n calls
 agree-places value answers n [] h = tt
@@ -160,6 +161,10 @@ agree-places value answers n (call ∷ calls) h =
           let same : n + 1 + k ≡ n + suc k = omega arith in
           ap (λ j. slice_index answers j) same ∙ h (suc k) (omega arith)),
     )
+
+pub agree-sym : (a b : ℕ → Call → ℕ) (n : ℕ) (calls : List Call) → AgreeOn a b n calls → AgreeOn b a n calls
+agree-sym a b n [] h = tt
+agree-sym a b n (call ∷ calls) h = (sym h.0, agree-sym a b (n + 1) calls h.1)
 
 value_in : Program → Call → ℕ
 value_in body call = value_of (kind_of body call.gadget) call.inputs

@@ -8,3 +8,18 @@ pub mod Fixed
 pub mod Public
 -- sums of readings
 pub mod Sums
+-- calls: their gadgets, their inputs, their numbers
+pub mod CallLemmas
+-- first numbers and least powers
+pub mod PowerLemmas
+-- parts one after another
+pub mod PartLemmas
+-- what the value of a gadget depends on
+pub mod ValueLemmas
+-- wires, and decisions
+pub mod WireLemmas
+pub mod Decisions
+-- the honest proof
+pub mod Honest
+-- verifiers of shares
+pub mod Verifiers

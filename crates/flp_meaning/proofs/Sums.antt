@@ -32,7 +32,7 @@ pub data CallsAdd : List Call → List Call → List Call → Type 0 where
       {a b c : Call} {xs ys zs : List Call} → a.gadget ≡ b.gadget → a.gadget ≡ c.gadget → WordsAdd a.inputs b.inputs c.inputs
       → CallsAdd xs ys zs → CallsAdd (a ∷ xs) (b ∷ ys) (c ∷ zs)
 
-words-append : {xs ys zs xs' ys' zs' : List ℕ} → WordsAdd xs ys zs → WordsAdd xs' ys' zs' → WordsAdd (xs ++ xs') (ys ++ ys') (zs ++ zs')
+pub words-append : {xs ys zs xs' ys' zs' : List ℕ} → WordsAdd xs ys zs → WordsAdd xs' ys' zs' → WordsAdd (xs ++ xs') (ys ++ ys') (zs ++ zs')
 words-append no_words h = h
 words-append (word_on e more) h = word_on e (words-append more h)
 
@@ -82,12 +82,12 @@ each_turn_adds : {A : Type 0} (V : A → A → A → Type 0) (f g h : ℕ → Ru
 each_turn_adds V f g h [] all = no_runs
 each_turn_adds V f g h (value ∷ values) all = run_on (all value) (each_turn_adds V f g h values all)
 
-adds-sum : (a b c a' b' c' : ℕ) → Adds a b c → Adds a' b' c' → Adds (a + a') (b + b') (c + c')
+pub adds-sum : (a b c a' b' c' : ℕ) → Adds a b c → Adds a' b' c' → Adds (a + a') (b + b') (c + c')
 adds-sum a b c a' b' c' e f =
     let moved : b + c + (b' + c') ≡ b + b' + (c + c') = omega arith in
     same_add a (b + c) a' (b' + c') e f ∙ ap (λ (k : ℕ). k % modulus) moved
 
-adds-scaled : (k a b c : ℕ) → Adds a b c → Adds (k * a) (k * b) (k * c)
+pub adds-scaled : (k a b c : ℕ) → Adds a b c → Adds (k * a) (k * b) (k * c)
 adds-scaled k a b c e =
     let spread : k * (b + c) ≡ k * b + k * c = omega arith in
     same_mul k k a (b + c) refl e ∙ ap (λ (x : ℕ). x % modulus) spread
@@ -101,10 +101,10 @@ adds-signed : (minus : Bool) (a b c : ℕ) → Adds a b c → Adds (signed minus
 adds-signed true a b c e = adds-scaled (modulus - 1) a b c e
 adds-signed false a b c e = e
 
-adds-word : (a b c : ℕ) → a ≡ word_sum b c → Adds a b c
+pub adds-word : (a b c : ℕ) → a ≡ word_sum b c → Adds a b c
 adds-word a b c e = ap (λ (x : ℕ). x % modulus) e ∙ same_mod (b + c)
 
-word-adds : (a b c : ℕ) → Adds a b c → a % modulus ≡ word_sum (b % modulus) (c % modulus)
+pub word-adds : (a b c : ℕ) → Adds a b c → a % modulus ≡ word_sum (b % modulus) (c % modulus)
 word-adds a b c e =
     e ∙ same_add b (b % modulus) c (c % modulus) (sym (same_mod b)) (sym (same_mod c))
 
@@ -345,7 +345,7 @@ module _ (words : List ℕ) (whole left right : Share) (sums : ShareIsSum whole 
 
 -- ---- whole circuits
 
-circuit_adds : (body : Program) (words : List ℕ) (whole left right : Share) → IsLinear body → ShareIsSum whole left right
+pub circuit_adds : (body : Program) (words : List ℕ) (whole left right : Share) → IsLinear body → ShareIsSum whole left right
     → WordsAdd (checks_of body (read words whole)) (checks_of body (read words left)) (checks_of body (read words right))
     × CallsAdd (calls_of body (read words whole)) (calls_of body (read words left)) (calls_of body (read words right))
 unfolding RunsAdd ResultsAdd
@@ -381,7 +381,7 @@ keep_or_drop : (test : Bool) {a b c : Call} {as' bs' cs' : List Call} → a.gadg
 keep_or_drop true e f i more = call_on e f i more
 keep_or_drop false e f i more = more
 
-calls_to-adds : (gadget : ℕ) {a b c : List Call} → CallsAdd a b c → CallsAdd (calls_to gadget a) (calls_to gadget b) (calls_to gadget c)
+pub calls_to-adds : (gadget : ℕ) {a b c : List Call} → CallsAdd a b c → CallsAdd (calls_to gadget a) (calls_to gadget b) (calls_to gadget c)
 calls_to-adds gadget no_calls = no_calls
 calls_to-adds gadget (call_on {a = a} {b = b} {c = c} {xs = as'} {ys = bs'} {zs = cs'} e f i more) =
     let P : ℕ → ℕ → Type 0 = λ k l.
@@ -390,7 +390,7 @@ calls_to-adds gadget (call_on {a = a} {b = b} {c = c} {xs = as'} {ys = bs'} {zs 
     subst (λ k. P k c.gadget) e
     (subst (λ l. P a.gadget l) f (keep_or_drop (eqb a.gadget gadget) e f i (calls_to-adds gadget more)))
 
-inputs_at-adds : (input : ℕ) {a b c : List Call} → CallsAdd a b c → WordsAdd (inputs_at input a) (inputs_at input b) (inputs_at input c)
+pub inputs_at-adds : (input : ℕ) {a b c : List Call} → CallsAdd a b c → WordsAdd (inputs_at input a) (inputs_at input b) (inputs_at input c)
 inputs_at-adds input no_calls = no_words
 inputs_at-adds input (call_on e f i more) = word_on (is_sum-words i input) (inputs_at-adds input more)
 

@@ -20,3 +20,5 @@ pub mod MeaningLaws
 -- circuits that are linear in shared values, and what that gives for sums
 pub mod Linear
 pub mod LinearLaws
+-- the laws of proofs
+pub mod ProofLaws

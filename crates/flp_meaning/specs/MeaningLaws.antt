@@ -1,10 +1,12 @@
 -- The laws of what circuits mean: what their values depend on. From answers up to whole circuits.
-use Rattle.std.specs.Prelude.{ℕ, ◌≡◌, ◌+◌, ◌<◌, List, [], ◌∷◌, map, length, take, slice_index}
+use Rattle.std.specs.Prelude.{ℕ, ◌≡◌, ◌+◌, ◌<◌, ◌≤◌, List, [], ◌∷◌, map, length, take, slice_index}
+use Rattle.std.specs.List.{All}
+use Rattle.flp_field.specs.Word.{AreWords}
 use Rattle.flp_gadget.specs.KindTree.{value_of}
 use Rattle.flp_syntax.specs.Tree.{Program}
 use Rattle.flp_meaning.specs.Meaning.{Call, Reading}
 use Rattle.flp_meaning.specs.Circuit.{circuit_of, checks_of, calls_of, kind_of, direct, answered}
-use Rattle.flp_meaning.specs.Gadgets.{gadgets_called, calls_to, calls_made, check_count, out_count}
+use Rattle.flp_meaning.specs.Gadgets.{blank, gadgets_called, calls_to, calls_made, check_count, out_count}
 
 -- ---- what decides values and calls
 
@@ -37,6 +39,13 @@ abbrev pub GadgetsAreFixed : Type 0
 GadgetsAreFixed =
     (body : Program) (reading : Reading) → map (λ (call : Call). call.gadget) (calls_of body reading) ≡ gadgets_called body
 
+-- the number of inputs of each call
+abbrev pub InputCountsAreFixed : Type 0
+InputCountsAreFixed =
+    (body : Program) (reading : Reading)
+    → map (λ (call : Call). length call.inputs) (calls_of body reading)
+    ≡ map (λ (call : Call). length call.inputs) (calls_of body blank)
+
 -- and so the number of calls of each gadget
 abbrev pub CallsAreFixed : Type 0
 CallsAreFixed =
@@ -49,6 +58,14 @@ ChecksAreFixed = (body : Program) (reading : Reading) → length (checks_of body
 
 abbrev pub OutsAreFixed : Type 0
 OutsAreFixed = (body : Program) (reading : Reading) → length (circuit_of body reading).value.outs ≡ out_count body
+
+-- each call is of a gadget of the circuit, if it has any, and its inputs are words
+pub record IsCall (body : Program) (call : Call) : Type 0 where
+  pub known : 1 ≤ length body.gadgets → call.gadget < length body.gadgets
+  pub words : AreWords call.inputs
+
+abbrev pub CallsAreWell : Type 0
+CallsAreWell = (body : Program) (reading : Reading) → All (IsCall body) (calls_of body reading)
 
 -- ---- the two readings
 

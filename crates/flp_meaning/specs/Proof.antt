@@ -1,6 +1,6 @@
 -- Proofs: for each gadget, in the order of the declarations, the seeds of its wires and then the coefficients of its polynomial, lowest first.
 -- From the parts of a proof to the honest proof, and to what a proof answers.
-use Rattle.std.specs.Prelude.{ℕ, ◌+◌, List, ◌++◌, map, take, drop}
+use Rattle.std.specs.Prelude.{ℕ, ◌≡◌, ◌+◌, List, ◌++◌, map, take, drop}
 use Rattle.std.specs.List.{range_with_len, flat_map}
 use Rattle.flp_field.specs.Word.{word_power}
 use Rattle.flp_field.specs.Domain.{alpha}
@@ -57,3 +57,16 @@ answers_in body proof = map (answer_in body proof) (range_with_len 0 (call_count
 -- the circuit, read with the answers of a proof
 abbrev pub proved : Program → (x joint proof : List ℕ) → (unit : ℕ) → Reading
 proved body x joint proof unit = answered x joint unit (answers_in body proof)
+
+-- the wires of a gadget, where a proof answers the calls and has the seeds
+abbrev pub wires_in : Program → (x joint proof : List ℕ) → (unit gadget : ℕ) → List (List ℕ)
+wires_in body x joint proof unit gadget =
+    wires_of body (calls_of body (proved body x joint proof unit)) (seeds_in body proof gadget) gadget
+
+-- the gadget's formula at these wires
+abbrev pub formula_in : Program → (x joint proof : List ℕ) → (unit gadget : ℕ) → List ℕ
+formula_in body x joint proof unit gadget = formula_of (kind_of body gadget) (wires_in body x joint proof unit gadget)
+
+-- a proof is true of a gadget where its polynomial is this formula; else the gadget lies
+abbrev pub IsTrueOf : Program → (x joint proof : List ℕ) → ℕ → Type 0
+IsTrueOf body x joint proof gadget = polynomial_in body proof gadget ≡ formula_in body x joint proof 1 gadget
