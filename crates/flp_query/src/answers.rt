@@ -15,6 +15,7 @@ pub(crate) fn write_answers(plan: &Plan, proof: &[Fe], answers: &mut [Fe])
     requires room { length answers.old ≡ call_count plan.now.circuit }
     ensures { answers.new ≡ answers_in plan.now.circuit proof.now }
 {
+    laws::is_within_limits(plan);
     for (call, answer) in answers.iter_mut().enumerate() {
         *answer = answer_to(plan, proof, call as u32);
     }
