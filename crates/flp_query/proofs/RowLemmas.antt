@@ -24,7 +24,7 @@ use Rattle.flp_query.specs.Rows.{HasRows, column, values_of_columns}
 
 -- ---- a row among others
 
-zeros-at : (n i : ℕ) → get_or (replicate n 0) i 0 ≡ 0
+zeros-at : (n i : ℕ) → ◌≡◌ {A = ℕ} (get_or (replicate n 0) i 0) 0
 zeros-at n i =
     ⊎_elim (λ (low : i < n). get_or-replicate n i 0 0 low)
     (λ (high : n ≤ i). get_or_past (replicate n 0) i 0 (subst (λ m. m ≤ i) (sym (length-replicate n 0)) high))
@@ -81,13 +81,13 @@ push-other first v rest k other =
 -- as many gadgets of this number as calls to it
 times-calls : (gadget : ℕ) (calls : List Call) → times gadget (map (λ (call : Call). call.gadget) calls) ≡ length (calls_to gadget calls)
 times-calls gadget [] = refl
-times-calls gadget (call ∷ calls) = either (eqb call.gadget gadget)
+times-calls gadget (call ∷ calls) = either (eqb call.gadget gadget) (times-calls gadget calls)
   where
-    either : (test : Bool)
+    either : (test : Bool) → times gadget (map (λ (c : Call). c.gadget) calls) ≡ length (calls_to gadget calls)
         → length (cond test (call.gadget ∷ filter (λ other. eqb other gadget) (map (λ (c : Call). c.gadget) calls)) (filter (λ other. eqb other gadget) (map (λ (c : Call). c.gadget) calls)))
         ≡ length (cond test (call ∷ calls_to gadget calls) (calls_to gadget calls))
-    either true = ap suc (times-calls gadget calls)
-    either false = times-calls gadget calls
+    either true h = ap suc h
+    either false h = h
 
 calls-more : (calls : List Call) (i : ℕ) (call : Call) → slice_get calls i ≡ Some call → take (i + 1) calls ≡ take i calls ++ call ∷ []
 calls-more calls i call found =

@@ -5,7 +5,7 @@ use Rattle.std.proofs.lemmas.List.FromFn.{sum_by-map-range_with_len_more}
 use Rattle.flp_meaning.specs.Lengths.{start_of}
 use Rattle.flp_meaning.proofs.PartLemmas.{part_inside}
 
-map-own : {X : Type 0} (xs : List X) → map (λ x. x) xs ≡ xs
+pub map-own : {X : Type 0} (xs : List X) → map (λ x. x) xs ≡ xs
 map-own [] = refl
 map-own (x ∷ xs) = ap (λ l. x ∷ l) (map-own xs)
 
