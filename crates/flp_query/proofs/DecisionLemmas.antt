@@ -1,5 +1,5 @@
 -- What the decision reads of a verifier, gadget after gadget.
-use Rattle.std.proofs.Common.{ℕ, suc, ◌≡◌, ◌+◌, ◌<◌, ◌≤◌, Bool, true, false, ◌&&◌, List, ◌∷◌, [], ◌++◌, length, take, drop, get_or, refl, ap, ap₂, sym, subst, ◌∙◌, arith, eqb, ⊎_elim}
+use Rattle.std.proofs.Common.{ℕ, zero, suc, ◌≡◌, ◌+◌, ◌<◌, ◌≤◌, Bool, true, false, ◌&&◌, List, ◌∷◌, [], ◌++◌, length, take, drop, get_or, refl, ap, ap₂, sym, subst, ◌∙◌, arith, eqb, ⊎_elim}
 use Rattle.std.specs.List.{range_with_len, list_all, sum_by}
 use Rattle.std.specs.Prelude.{slice_index}
 use Rattle.std.proofs.lemmas.Bool.{false≢true}
@@ -24,7 +24,10 @@ part-fits body g start arity n inside begins inputs size =
     omega arith
 
 take-take : (n m : ℕ) (xs : List ℕ) → n ≤ m → take n (take m xs) ≡ take n xs
-take-take n m xs less = ?
+take-take zero m xs less = refl
+take-take (suc n) zero xs less = absurd (omega arith)
+take-take (suc n) (suc m) [] less = refl
+take-take (suc n) (suc m) (x ∷ xs) less = ap (λ l. x ∷ l) (take-take n m xs (omega arith))
 
 -- what is tested of a gadget
 pub holds-at : (body : Program) (words : List ℕ) (g start arity : ℕ) → start ≡ 1 + start_of (verifier_part body) g → arity ≡ arity_of body g
@@ -37,7 +40,7 @@ holds-at body words g start arity begins inputs =
     (get_or-take (n + 1) (drop s words) n 0 (omega arith) ∙ get_or-drop s words n 0)
     ∙ ap₂ (λ (from count : ℕ). eqb (value_of (kind_of body g) (take count (drop from words))) (get_or words (from + count) 0)) (sym begins) (sym inputs)
 
-range-more : (g : ℕ) → range_with_len 0 (g + 1) ≡ range_with_len 0 g ++ g ∷ []
+pub range-more : (g : ℕ) → range_with_len 0 (g + 1) ≡ range_with_len 0 g ++ g ∷ []
 range-more g =
     sym (map-own (range_with_len 0 (g + 1))) ∙ map-range_with_len_more (λ k. k) 0 g g (omega arith)
     ∙ ap (λ l. l ++ g ∷ []) (map-own (range_with_len 0 g))

@@ -10,3 +10,7 @@ pub mod CheckLemmas
 pub mod DecisionLemmas
 -- rows of values of wires
 pub mod RowLemmas
+-- the part of a gadget, and parts in order
+pub mod VerifierLemmas
+-- the sizes of a scratch
+pub mod SizeLemmas

@@ -14,7 +14,7 @@ use crate::sizes::{Sizes, most_row_words, sizes_of};
 use crate::unit::unit_of;
 use crate::verifier::write_parts;
 use flp_field::Fe;
-use flp_plan::Plan;
+use flp_plan::{Plan, laws};
 use std::alloc::Global;
 use std::marker::Model;
 
@@ -53,6 +53,7 @@ impl Scratch {
     pub fn new(alloc: Global, plan: &Plan) -> Result<Scratch, Memory>
         ensures { IfOk result (λ scratch. scratch ≡ sizes_of plan.now) }
     {
+        laws::is_within_limits(plan);
         let sizes = sizes_of(alloc, plan)?;
         let publics = vec![in alloc; Fe::ZERO; plan.publics_len() as usize]?;
         let answers = vec![in alloc; Fe::ZERO; plan.call_count() as usize]?;
@@ -100,6 +101,7 @@ impl Scratch {
         if let Some(gadget) = gadget_in_domain(plan, words) {
             return Err(InDomain { gadget });
         }
+        laws::is_within_limits(plan);
         plan.publics(joint, &mut self.publics);
         write_answers(plan, proof, &mut self.answers);
         let reading = Reading {

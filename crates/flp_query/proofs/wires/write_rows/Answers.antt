@@ -1,9 +1,10 @@
-use Rattle.std.proofs.Common.{ℕ, ◌≡◌, ◌+◌, ◌-◌, ◌*◌, ◌<◌, ◌≤◌, ◌∙◌, List, length, ap, sym, subst, arith}
+use Rattle.std.proofs.Common.{ℕ, ◌≡◌, ◌+◌, ◌-◌, ◌*◌, ◌<◌, ◌≤◌, ◌∙◌, List, length, take, ap, sym, subst, arith}
 use borrow.Rule.Slice.PartMut.{put_mid}
 use Rattle.std.proofs.Math.Nat.{mul-le-mul_right}
 use Rattle.flp_meaning.specs.Meaning.{Reading}
-use Rattle.flp_meaning.specs.Circuit.{answered}
+use Rattle.flp_meaning.specs.Circuit.{answered, calls_of}
 use Rattle.flp_meaning.specs.Gadgets.{arity_of, size_of, calls_made, call_gadget, call_number, call_count}
+use Rattle.flp_query.specs.Rows.{HasRows}
 use Rattle.flp_query.proofs.RowLemmas.{rows-more, rows-other, rows-all}
 use Rattle.flp_query.proofs.wires.write_rows.Goals as goal
 use Rattle.flp_query.proofs.wires.write_rows.Goals.{then-call_gadget-gadget, else-call_gadget-gadget}
@@ -12,8 +13,27 @@ pub loop-call-preserved : goal.loop-call-preserved
 loop-call-preserved c joint same =
     let reading : Reading = answered c.args.reading.now.x.now joint c.args.reading.now.unit c.args.reading.now.answers.now in
     elim c.if-call_gadget-gadget.branch [
-      | then-call_gadget-gadget w ↦ ?
-      | else-call_gadget-gadget w ↦ ?
+      | then-call_gadget-gadget w ↦
+          let own : call_gadget c.args.plan.now.circuit c.loop-call.call ≡ c.args.gadget = sym c.call_gadget.ensures ∙ w.if-call_gadget-gadget.true in
+          let among : call_number c.args.plan.now.circuit c.loop-call.call ≤ calls_made c.args.plan.now.circuit (call_gadget c.args.plan.now.circuit c.loop-call.call) =
+          (c.is_within_limits.ensures.calls c.loop-call.call (omega arith)).among_calls in
+          let room : calls_made c.args.plan.now.circuit c.args.gadget + 1 ≤ size_of c.args.plan.now.circuit c.args.gadget =
+          (c.is_within_limits.ensures.gadgets c.args.gadget c.requires.gadget).room_for_calls in
+          let low : call_number c.args.plan.now.circuit c.loop-call.call ≤ calls_made c.args.plan.now.circuit c.args.gadget =
+          subst (λ (g : ℕ). call_number c.args.plan.now.circuit c.loop-call.call ≤ calls_made c.args.plan.now.circuit g) own among in
+          let number : w.call_number.result ≡ call_number c.args.plan.now.circuit c.loop-call.call = w.call_number.ensures in
+          let inside : (w.call_number.result + 1) * c.arity-arity.result ≤ size_of c.args.plan.now.circuit c.args.gadget * c.arity-arity.result =
+          mul-le-mul_right c.arity-arity.result (omega arith) in
+          let whole : length c.loop-call.rows ≡ size_of c.args.plan.now.circuit c.args.gadget * c.arity-arity.result =
+          ? in
+          rows-more c.args.plan.now.circuit reading c.args.seeds.now c.args.gadget c.loop-call.call c.loop-call.rows w.write_inputs.new.row c.if-call_gadget-gadget.rows
+          w.call_number.result c.arity-arity.result (c.loop-call.invariant joint same) (w.write_inputs.ensures joint same) own number c.arity-arity.ensures.inputs
+          ? (omega arith)
+          (w.rows-is ∙ ap (λ (k : ℕ). put_mid (w.call_number.result * c.arity-arity.result) k c.loop-call.rows w.write_inputs.new.row) (omega arith))
+      | else-call_gadget-gadget w ↦
+          subst (λ (rows : List ℕ). HasRows c.args.plan.now.circuit (take (c.loop-call.call + 1) (calls_of c.args.plan.now.circuit reading)) c.args.seeds.now c.args.gadget rows) (sym w.rows-is)
+          (rows-other c.args.plan.now.circuit reading c.args.seeds.now c.args.gadget c.loop-call.call c.loop-call.rows (omega arith) (c.loop-call.invariant joint same)
+          (λ (e : call_gadget c.args.plan.now.circuit c.loop-call.call ≡ c.args.gadget). w.if-call_gadget-gadget.false (c.call_gadget.ensures ∙ e)))
     ]
 
 pub returns : goal.returns
