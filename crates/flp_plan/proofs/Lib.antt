@@ -1,3 +1,4 @@
 pub mod FormLemmas
 pub mod SharesLemmas
 pub mod TiedLemmas
+pub mod LinearLemmas

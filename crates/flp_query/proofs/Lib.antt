@@ -14,3 +14,5 @@ pub mod RowLemmas
 pub mod VerifierLemmas
 -- the sizes of a scratch
 pub mod SizeLemmas
+-- sums of verifiers, and honest proofs
+pub mod LawLemmas

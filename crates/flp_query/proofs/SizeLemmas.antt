@@ -6,8 +6,9 @@ use Rattle.std.proofs.lemmas.List.{get_or-map}
 use Rattle.std.proofs.lemmas.List.Elements.{All-map, All-head, All-tail}
 use Rattle.std.proofs.lemmas.List.FromFn.{length-range_with_len, get_or-range_with_len, length-map-range_with_len, get_or-map-range_with_len}
 use Rattle.std.proofs.lemmas.List.Sums.{sum_by-cons}
+use Rattle.std.proofs.lemmas.Grind.{get_or_default_zero}
 use Rattle.flp_syntax.specs.Tree.{Program}
-use Rattle.flp_meaning.specs.Gadgets.{gadgets_of, arity_of, size_of, times, calls_made, gadgets_called, call_count}
+use Rattle.flp_meaning.specs.Gadgets.{gadgets_of, arity_of, size_of, times, calls_made, gadgets_called, call_count, call_gadget}
 use Rattle.flp_plan.specs.Limits.{IsWithinLimits}
 use Rattle.flp_query.specs.declared.sizes.GadgetSize.{GadgetSize}
 use Rattle.flp_query.specs.Sizes.{gadget_size}
@@ -21,7 +22,9 @@ sum-map g f (x ∷ xs) = sum_by-cons g (f x) (map f xs) ∙ ap (λ n. g (f x) + 
 
 sum-none : (a n : ℕ) → sum_by (λ g. times g []) (range_with_len a n) ≡ 0
 sum-none a zero = refl
-sum-none a (suc n) = sum_by-cons (λ g. times g []) a (range_with_len (a + 1) n) ∙ sum-none (a + 1) n
+sum-none a (suc n) =
+    let rest : sum_by (λ g. times g []) (range_with_len (a + 1) n) ≡ 0 = sum-none (a + 1) n in
+    sum_by-cons (λ g. times g []) a (range_with_len (a + 1) n) ∙ ap (λ k. 0 + k) rest
 
 times-same : (g first : ℕ) (more : List ℕ) → first ≡ g → times g (first ∷ more) ≡ suc (times g more)
 times-same g first more same = ap (λ b. length (cond b (first ∷ filter (λ other. eqb other g) more) (filter (λ other. eqb other g) more))) (eq-eqb first g same)
@@ -55,13 +58,17 @@ sum-one first more a (suc n) from below =
 sum-all : (called : List ℕ) (n : ℕ) → All (λ g. g < n) called → sum_by (λ g. times g called) (range_with_len 0 n) ≡ length called
 sum-all [] n all = sum-none 0 n
 sum-all (first ∷ more) n all =
-    sum-one first more 0 n (omega arith) (All-head (λ g. g < n) first more all) ∙ ap suc (sum-all more n (All-tail (λ g. g < n) first more all))
+    let low : first < n = All-head (λ g. g < n) first more all in
+    sum-one first more 0 n (omega arith) (omega arith) ∙ ap suc (sum-all more n (All-tail (λ g. g < n) first more all))
 
 pub calls-total : (body : Program) → IsWithinLimits body
     → sum_by (λ (gadget : GadgetSize). gadget.calls) (map (gadget_size body) (gadgets_of body)) ≡ call_count body
 calls-total body limits =
     sum-map (λ (gadget : GadgetSize). gadget.calls) (gadget_size body) (gadgets_of body)
-    ∙ sum-all (gadgets_called body) (length body.gadgets) ?
+    ∙ sum-all (gadgets_called body) (length body.gadgets)
+    (λ k d low.
+    let known : call_gadget body k < length body.gadgets = (limits.calls k low).gadget in
+    subst (λ g. g < length body.gadgets) (sym (get_or_default_zero (gadgets_called body) k d low)) known)
 
 -- ---- rows
 

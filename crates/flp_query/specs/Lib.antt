@@ -7,3 +7,5 @@ pub mod Room
 pub mod Unit
 -- values of wires, row by row
 pub mod Rows
+-- the laws
+pub mod Laws

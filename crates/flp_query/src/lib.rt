@@ -19,6 +19,7 @@ mod answers;
 mod checks;
 mod decision;
 mod domains;
+pub mod laws;
 mod parts;
 mod reading;
 mod scratch;

@@ -102,12 +102,14 @@ impl Scratch {
             return Err(InDomain { gadget });
         }
         laws::is_within_limits(plan);
-        plan.publics(joint, &mut self.publics);
-        write_answers(plan, proof, &mut self.answers);
+        let publics: &mut [Fe] = &mut self.publics;
+        plan.publics(joint, publics);
+        let answers: &mut [Fe] = &mut self.answers;
+        write_answers(plan, proof, answers);
         let reading = Reading {
-            publics: self.publics.as_slice(),
+            publics,
             x,
-            answers: self.answers.as_slice(),
+            answers,
             unit: unit_of(shares),
         };
         verifier[0] = combined_check(plan, &reading, words);
