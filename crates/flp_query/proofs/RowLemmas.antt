@@ -24,12 +24,6 @@ use Rattle.flp_query.specs.Rows.{HasRows, column, values_of_columns}
 
 -- ---- a row among others
 
-zeros-at : (n i : ℕ) → ◌≡◌ {A = ℕ} (get_or (replicate n 0) i 0) 0
-zeros-at n i =
-    ⊎_elim (λ (low : i < n). get_or-replicate n i 0 0 low)
-    (λ (high : n ≤ i). get_or_past (replicate n 0) i 0 (subst (λ m. m ≤ i) (sym (length-replicate n 0)) high))
-    (cases_lt i n)
-
 -- in front of what was written, in it and behind it
 front-at : (s k : ℕ) (xs ys : List ℕ) (i : ℕ) → s ≤ length xs → i < s → get_or (put_mid s k xs ys) i 0 ≡ get_or xs i 0
 front-at s k xs ys i there low =
@@ -132,23 +126,6 @@ number-is body reading i call found own =
     ∙ omega arith
 
 -- ---- rows
-
--- before any call: the seeds, and zeros
-pub rows-first : (body : Program) (seeds : List ℕ) (gadget : ℕ) (n : ℕ) (rows : List ℕ) → length seeds ≡ arity_of body gadget
-    → rows ≡ seeds ++ drop (arity_of body gadget) (replicate n 0) → HasRows body [] seeds gadget rows
-rows-first body seeds gadget n rows size same zero input below inside =
-    let first : 0 * arity_of body gadget + input ≡ input = omega arith in
-    ap₂ (λ (l : List ℕ) (k : ℕ). get_or l k 0) same first
-    ∙ get_or_append_left seeds (drop (arity_of body gadget) (replicate n 0)) 0 input (omega arith)
-rows-first body seeds gadget n rows size same (suc point) input below inside =
-    let width : ℕ = arity_of body gadget in
-    let later : suc point * width + input ≡ width + (point * width + input) = omega arith in
-    let back : width + (point * width + input) - width ≡ point * width + input = omega arith in
-    ap₂ (λ (l : List ℕ) (k : ℕ). get_or l k 0) same later
-    ∙ get_or-append_right seeds (drop width (replicate n 0)) width (width + (point * width + input)) 0 size (omega arith)
-    ∙ get_or-drop width (replicate n 0) (width + (point * width + input) - width) 0
-    ∙ zeros-at n (width + (width + (point * width + input) - width))
-    ∙ sym (get_or_past (slice_index seeds input ∷ []) (suc point) 0 (omega arith))
 
 -- the inputs of one more call of the gadget
 pub rows-more : (body : Program) (reading : Reading) (seeds : List ℕ) (gadget i : ℕ) (rows row more : List ℕ) (number width : ℕ)
