@@ -1,8 +1,8 @@
 -- The first flaw of texts that stand behind one another.
-use Rattle.std.proofs.Common.{◌≡◌, ℕ, ◌+◌, ◌*◌, ◌<◌, Bool, true, false, ltb, List, [], ◌∷◌, ◌++◌, Option, None, Some, refl, sym, ap, ◌∙◌, arith}
+use Rattle.std.proofs.Common.{◌≡◌, List, [], ◌∷◌, ◌++◌, Option, None, Some, refl, sym, ap, ◌∙◌, arith}
 use Rattle.std.proofs.lemmas.Bool.Decides.{nat_tests}
 use Rattle.flp_check.specs.declared.flaw.Flaw.{Flaw}
-use Rattle.flp_check.specs.Flaws.{earlier_of, first_flaw, order_of, Finds}
+use Rattle.flp_check.specs.Flaws.{earlier_of, first_flaw, Finds}
 
 pub earlier_of-none : (found : Option Flaw) → earlier_of found None ≡ found
 earlier_of-none None = refl

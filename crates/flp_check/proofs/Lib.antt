@@ -5,3 +5,9 @@ pub mod Walking
 pub mod Nodes
 pub mod Meeting
 pub mod Turns
+pub mod FlawsFit
+pub mod LimitLemmas
+pub mod Fitting
+pub mod LinearLemmas
+pub mod VerdictLemmas
+pub mod Firsts

@@ -1,6 +1,5 @@
 -- Nodes that were met are not forgotten.
-use Rattle.std.proofs.Common.{◌≡◌, ℕ, suc, ◌+◌, ◌<◌, ◌≤◌, Bool, true, false, cond, ltb, List, [], ◌∷◌, Result, Ok, Err, refl, subst, sym, arith}
-use Rattle.std.proofs.lemmas.Bool.Decides.{nat_tests}
+use Rattle.std.proofs.Common.{◌≡◌, ℕ, ◌+◌, ◌≤◌, Bool, true, false, cond, List, ◌∷◌, Ok, Err, subst, arith}
 use Rattle.flp_syntax.specs.Tree.{Tree, number, var, joint, meas, meas_or_zero, sum, call, add, mul, pow, Program}
 use Rattle.flp_syntax.specs.Scope.{Scope}
 use Rattle.flp_syntax.specs.declared.fault.LangFault.{LangFault}

@@ -1,9 +1,9 @@
 -- A node is met before its parts.
-use Rattle.std.proofs.Common.{◌≡◌, ℕ, suc, ◌+◌, ◌<◌, Bool, true, false, List, [], ◌∷◌, ◌++◌, refl}
+use Rattle.std.proofs.Common.{◌≡◌, ℕ, Bool, true, false, [], ◌∷◌, refl}
 use Rattle.flp_syntax.specs.Tree.{Index, index_number, index_var, index_add, index_mul, IndexItems, index_item_on, Tree, number, var, joint, meas, meas_or_zero, sum, call, add, mul, pow, Statement, check, out, each, Program}
 use Rattle.flp_syntax.specs.Scope.{Scope, index_value, sum_from}
 use Rattle.flp_syntax.specs.declared.fault.LangFault.{LangFault}
-use Rattle.flp_check.specs.Events.{Event, visit, moved, index_events, tree_events, stmt_events}
+use Rattle.flp_check.specs.Events.{visit, moved, index_events, tree_events, stmt_events}
 use Rattle.flp_check.specs.Counts.{Counts, Stops}
 use Rattle.flp_check.proofs.Walking.{stops_front}
 

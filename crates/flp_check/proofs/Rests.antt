@@ -1,7 +1,7 @@
 -- What is left of a list, from its next element on.
-use Rattle.std.proofs.Common.{◌≡◌, ℕ, ◌+◌, ◌<◌, Bool, List, [], ◌∷◌, length, map, take, drop, ◌++◌, get_or, refl, sym, ap, ◌∙◌, add-one, drop-cons}
+use Rattle.std.proofs.Common.{◌≡◌, ℕ, ◌+◌, ◌<◌, List, [], ◌∷◌, length, map, take, drop, ◌++◌, get_or, refl, sym, ap, ◌∙◌, add-one, drop-cons}
 use Rattle.std.proofs.lemmas.List.{take_more, map-append}
-use Rattle.flp_syntax.specs.Tree.{Index, index_items, indices, IndexItems, index_item_on, Indices, index_on, Tree, Argument, Statement, items, trees, arguments, statements, Items, item_on, tree_on, arg_on, stmt_on}
+use Rattle.flp_syntax.specs.Tree.{index_items, indices, index_item_on, index_on, items, trees, arguments, statements, item_on, tree_on, arg_on, stmt_on}
 use Rattle.flp_syntax.specs.View.{index_of, index_item_of, index_item_of_roll, tree_of, item_of, item_of_roll, arg_of, statement_of}
 use Rattle.flp_syntax.specs.declared.syntax.Item.{Item}
 use Rattle.flp_syntax.specs.declared.syntax.IdxItem.{IdxItem}

@@ -1,10 +1,10 @@
 -- The turns of loops, their scopes, and the numbers of arguments.
-use Rattle.std.proofs.Common.{◌≡◌, ℕ, zero, suc, ◌+◌, ◌-◌, ◌<◌, ◌≤◌, ◌^◌, min, Bool, true, false, eqb, List, [], ◌∷◌, ◌++◌, length, map, take, get_or, refl, sym, ap, ◌∙◌, arith}
+use Rattle.std.proofs.Common.{◌≡◌, ℕ, zero, suc, ◌+◌, ◌-◌, ◌<◌, ◌≤◌, ◌^◌, eqb, List, [], ◌∷◌, ◌++◌, length, map, take, get_or, refl, ap, ◌∙◌, arith}
 use Rattle.std.specs.Prelude.{sum_by}
 use Rattle.std.proofs.lemmas.List.{map-append}
 use Rattle.std.proofs.lemmas.List.Sums.{sum_by-cons}
 use Rattle.std.proofs.lemmas.Bool.Decides.{nat_tests}
-use Rattle.flp_syntax.specs.Scope.{Scope, inside, numbers_from, arity_of}
+use Rattle.flp_syntax.specs.Scope.{inside, numbers_from, arity_of}
 use Rattle.flp_syntax.specs.View.{kind_of, declaration_of}
 use Rattle.flp_syntax.specs.declared.syntax.Decl.{Decl}
 use Rattle.flp_check.specs.declared.scope.Bound.{Bound}

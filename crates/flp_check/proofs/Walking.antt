@@ -1,11 +1,10 @@
 -- Walks over events that stand behind one another.
-use Rattle.std.proofs.Common.{◌≡◌, ◌≢◌, ℕ, suc, ◌+◌, ◌-◌, ◌<◌, ◌≤◌, List, [], ◌∷◌, ◌++◌, Result, Ok, Err, IsErr, IsErrAnd, refl, sym, ap, subst, ◌∙◌, arith}
-use Rattle.std.proofs.lemmas.Bool.Decides.{nat_tests}
+use Rattle.std.proofs.Common.{◌≡◌, ℕ, suc, ◌+◌, ◌-◌, ◌<◌, ◌≤◌, List, [], ◌∷◌, ◌++◌, Result, Ok, Err, IsErr, IsErrAnd, refl, sym, ap, subst, ◌∙◌, arith}
 use Rattle.std.specs.List.{flat_map}
 use Rattle.flp_syntax.specs.Scope.{numbers_from}
 use Rattle.flp_syntax.specs.declared.fault.LangFault.{LangFault}
 use Rattle.flp_syntax.specs.declared.fault.LangFault.TheVariants.{Memory}
-use Rattle.flp_check.specs.Events.{Event, visit}
+use Rattle.flp_check.specs.Events.{Event}
 use Rattle.flp_check.specs.Counts.{Counts, meet, go_on, walk, Reaches, Stops, Walks}
 
 go_on-go_on : {A B C : Type 0} (r : Result A LangFault) (f : A → Result B LangFault) (g : B → Result C LangFault) → go_on (go_on r f) g ≡ go_on r (λ a. go_on (f a) g)

@@ -1,5 +1,6 @@
 -- Faults of names and sorts, over the whole text, without unrolling its loops.
-use Rattle.std.specs.Prelude.{◌≡◌, ℕ, suc, ◌+◌, ◌*◌, Bool, true, false, ◌&&◌, ◌||◌, not, nat_lt, if◌then◌else◌, List, [], ◌∷◌, ◌++◌, Option, None, Some, is_some}
+use Rattle.std.specs.Prelude.{◌≡◌, ◌≤◌, ℕ, suc, ◌+◌, ◌*◌, Bool, true, false, ◌&&◌, ◌||◌, not, nat_lt, if◌then◌else◌, List, [], ◌∷◌, ◌++◌, Option, None, Some, is_some}
+use Rattle.std.specs.List.{All, IsAmong}
 use Rattle.std.specs.Str.{bytes_eq}
 use Rattle.flp_syntax.specs.Tree.{Index, index_number, index_var, index_add, index_mul, IndexItems, no_index_items, index_item_on, Indices, no_indices, index_on, Tree, number, var, joint, meas, meas_or_zero, sum, call, add, mul, pow, Items, no_items, item_on, Trees, no_trees, tree_on, Argument, one, each_arg, Arguments, no_args, arg_on, Statement, check, out, each, Statements, no_stmts, stmt_on, Declaration, Program, tree_at}
 use Rattle.flp_syntax.specs.Scope.{gadget_number}
@@ -120,6 +121,11 @@ earlier_of (Some flaw) (Some other) = if nat_lt (order_of other) (order_of flaw)
 abbrev pub first_flaw : List Flaw → Option Flaw
 first_flaw [] = None
 first_flaw (flaw ∷ more) = earlier_of (Some flaw) (first_flaw more)
+
+-- a flaw of a list that none comes before
+pub record IsFirst (flaws : List Flaw) (flaw : Flaw) : Type 0 where
+  pub among : IsAmong flaws flaw
+  pub least : All (λ other. order_of flaw ≤ order_of other) flaws
 
 -- what a part of the search adds to the first flaw so far
 pub record Finds (before : Option Flaw) (flaws : List Flaw) (after : Option Flaw) : Type 0 where

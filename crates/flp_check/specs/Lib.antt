@@ -3,4 +3,6 @@ pub mod Flaws
 pub mod Events
 pub mod Counts
 pub mod Verdict
+pub mod Fits
+pub mod Linear
 pub mod Held

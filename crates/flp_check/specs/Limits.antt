@@ -1,5 +1,5 @@
 -- The limits on what a body declares, and on what must be there at the end of its unrolling.
-use Rattle.std.specs.Prelude.{ℕ, zero, suc, ◌+◌, ◌&&◌, nat_le, min, if◌then◌else◌, List, [], ◌∷◌, ◌++◌, length, Option, None, Some}
+use Rattle.std.specs.Prelude.{ℕ, zero, suc, ◌&&◌, nat_le, min, if◌then◌else◌, List, [], ◌∷◌, ◌++◌, length, Option, None, Some}
 use Rattle.std.specs.List.{flat_map}
 use Rattle.flp_syntax.specs.Tree.{Declaration, Program}
 use Rattle.flp_syntax.specs.Scope.{arity_of, degree_of}

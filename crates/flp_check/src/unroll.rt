@@ -1,120 +1,21 @@
-//! What unrolling a body meets.
-ghost use Rattle.std.specs.Prelude.{◌≡◌, ◌<◌, ◌≤◌, ◌+◌, ◌*◌, ◌==◌, ◌++◌, ◌∷◌, [], length, map, IfOk, sum_by};
+//! What unrolling meets in expressions.
+ghost use Rattle.std.specs.Prelude.{◌≡◌, ◌<◌, ◌≤◌, ◌+◌, ◌==◌, ◌++◌, length, map, IfOk, sum_by};
 ghost use Rattle.std.specs.List.{flat_map};
 ghost use Rattle.flp_syntax.specs.Tree as tree;
-ghost use Rattle.flp_syntax.specs.Scope.{index_value, sum_from, product_from, inside, turns, gadget_number};
-ghost use Rattle.flp_syntax.specs.View.{index_of, index_item_of, tree_of, item_of, arg_of, statement_of, declaration_of, program_of};
+ghost use Rattle.flp_syntax.specs.Scope.{index_value, inside, turns, gadget_number};
+ghost use Rattle.flp_syntax.specs.View.{index_of, tree_of, item_of, arg_of, declaration_of, program_of};
 ghost use Rattle.flp_check.specs.Limits.{named_count};
-ghost use Rattle.flp_check.specs.Events.{visit, in_range, step_events, moved, in_words, index_events, sum_events, product_events, range_events, args_count, arg_count, arity_at, call_events, tree_events, items_events, factors_events, arg_events, args_events, stmt_events, stmts_events};
-ghost use Rattle.flp_check.specs.Counts.{Counts, Walks};
+ghost use Rattle.flp_check.specs.Events.{index_events, range_events, args_count, arg_count, arity_at, call_events, tree_events, items_events, factors_events, arg_events, args_events};
+ghost use Rattle.flp_check.specs.Counts.{Walks};
 ghost use Rattle.flp_check.specs.Held.{scope_of, counts_of};
 
 use crate::counter::Counter;
+use crate::index::in_words;
 use crate::limits::arity;
-use crate::scope::{Bound, Loop, bound_value, gadget_number};
+use crate::scope::{Bound, Loop, gadget_number};
 use flp_list::Bytes;
-use flp_syntax::{Arg, Body, Decl, Expr, Idx, IdxItem, Item, LangFault, Stmt};
+use flp_syntax::{Arg, Body, Decl, Expr, Idx, Item, LangFault};
 use std::alloc::Global;
-
-/// Refuses a value of an index, or of a part of it, above 4,294,967,295.
-fn in_range(at: u32, value: u64) -> Result<u32, LangFault>
-    ensures walked { (counts : Counts) → Walks counts (in_range at value) result counts }
-    ensures value { IfOk result (λ given. given ≡ value) }
-{
-    if value > 4_294_967_295 {
-        return Err(LangFault::Index(at));
-    }
-    Ok(value as u32)
-}
-
-/// The value of an index's sum after an item.
-fn moved(at: u32, minus: bool, front: u32, value: u32) -> Result<u32, LangFault>
-    ensures walked { (counts : Counts) → Walks counts (step_events at minus front value) result counts }
-    ensures value { IfOk result (λ given. given ≡ moved minus front value) }
-{
-    if !minus {
-        return in_range(at, front as u64 + value as u64);
-    }
-    if value > front {
-        return Err(LangFault::Index(at));
-    }
-    Ok(front - value)
-}
-
-/// The value of an index's product after a factor.
-fn times(at: u32, front: u32, value: u32) -> Result<u32, LangFault>
-    ensures walked { (counts : Counts) → Walks counts (in_range at (front * value)) result counts }
-    ensures value { IfOk result (λ given. given ≡ front * value) }
-{
-    in_range(at, front as u64 * value as u64)
-}
-
-/// Refuses a place that is not below the number of words.
-fn in_words(at: u32, value: u32, words: u64) -> Result<(), LangFault>
-    ensures { (counts : Counts) → Walks counts (in_words at value words) result counts }
-{
-    if value as u64 >= words {
-        return Err(LangFault::Index(at));
-    }
-    Ok(())
-}
-
-impl Counter {
-    /// The value of an index.
-    #[cycle(index)]
-    fn index(&mut self, scope: &[Bound], idx: &Idx) -> Result<u32, LangFault>
-        ensures walked { Walks (counts_of self.old) (index_events (scope_of scope.now) (index_of idx.now)) result (counts_of self.new) }
-        ensures value { IfOk result (λ value. value ≡ index_value (scope_of scope.now) (index_of idx.now)) }
-    {
-        self.visit()?;
-        match idx {
-            Idx::Number { at, value } => in_range(*at, *value),
-            Idx::Var { at, name } => in_range(*at, bound_value(scope, name.as_slice()) as u64),
-            Idx::Add { at, items } => self.sum(scope, *at, items.as_slice()),
-            Idx::Mul { at, factors } => self.product(scope, *at, factors.as_slice()),
-        }
-    }
-
-    /// The value of an index's sum.
-    #[cycle(index)]
-    fn sum(&mut self, scope: &[Bound], at: u32, items: &[IdxItem]) -> Result<u32, LangFault>
-        ensures walked { Walks (counts_of self.old) (sum_events (scope_of scope.now) at 0 (tree.index_items (map index_item_of items.now))) result (counts_of self.new) }
-        ensures value { IfOk result (λ value. value ≡ sum_from (scope_of scope.now) 0 (tree.index_items (map index_item_of items.now))) }
-    {
-        let mut front = 0;
-        for item in items {
-            let value = self.index(scope, &item.idx)?;
-            let next = moved(at, item.minus, front, value)?;
-            front = next;
-        }
-        Ok(front)
-    }
-
-    /// The value of an index's product.
-    #[cycle(index)]
-    fn product(&mut self, scope: &[Bound], at: u32, factors: &[Idx]) -> Result<u32, LangFault>
-        ensures walked { Walks (counts_of self.old) (product_events (scope_of scope.now) at 1 (tree.indices (map index_of factors.now))) result (counts_of self.new) }
-        ensures value { IfOk result (λ value. value ≡ product_from (scope_of scope.now) 1 (tree.indices (map index_of factors.now))) }
-    {
-        let mut front = 1;
-        for factor in factors {
-            let value = self.index(scope, factor)?;
-            let next = times(at, front, value)?;
-            front = next;
-        }
-        Ok(front)
-    }
-
-    /// The bounds of a loop.
-    fn range(&mut self, scope: &[Bound], ahead: Loop) -> Result<(u32, u32), LangFault>
-        ensures walked { Walks (counts_of self.old) (range_events (scope_of scope.now) (index_of ahead.entry.from.now) (index_of ahead.entry.to.now)) result (counts_of self.new) }
-        ensures value { IfOk result (λ bounds. (bounds.0 ≡ index_value (scope_of scope.now) (index_of ahead.entry.from.now)) × (bounds.1 ≡ index_value (scope_of scope.now) (index_of ahead.entry.to.now))) }
-    {
-        let from = self.index(scope, ahead.from)?;
-        let to = self.index(scope, ahead.to)?;
-        Ok((from, to))
-    }
-}
 
 /// What unrolls a body.
 #[derive(Drop)]
@@ -141,7 +42,13 @@ fn takes(gadgets: &[Decl], gadget: usize, count: u32) -> bool
 
 impl Unroller<'_> {
     /// After the arguments of a call: the gadget's call, where their number is its arity.
-    fn gadget(&self, at: u32, name: &Bytes, count: u32, counter: &mut Counter) -> Result<(), LangFault>
+    fn gadget(
+        &self,
+        at: u32,
+        name: &Bytes,
+        count: u32,
+        counter: &mut Counter,
+    ) -> Result<(), LangFault>
         ensures { Walks (counts_of counter.old) (call_events (program_of self.now.body.now).gadgets at (gadget_number (program_of self.now.body.now).gadgets name.now) count) result (counts_of counter.new) }
     {
         let gadgets = self.body.gadgets.as_slice();
@@ -159,7 +66,12 @@ impl Unroller<'_> {
 
     /// An expression.
     #[cycle(expr)]
-    fn expr<'a>(&self, scope: &[Bound<'a>], expr: &'a Expr, counter: &mut Counter) -> Result<(), LangFault>
+    pub fn expr<'a>(
+        &self,
+        scope: &[Bound<'a>],
+        expr: &'a Expr,
+        counter: &mut Counter,
+    ) -> Result<(), LangFault>
         ensures { Walks (counts_of counter.old) (tree_events (program_of self.now.body.now) (scope_of scope.now) (tree_of expr.now)) result (counts_of counter.new) }
     {
         counter.visit()?;
@@ -178,7 +90,23 @@ impl Unroller<'_> {
                 counter.index(scope, index)?;
                 Ok(())
             }
-            Expr::Sum { at, name, from, to, inner } => self.sum(scope, Loop { at: *at, name, from, to }, inner, counter),
+            Expr::Sum {
+                at,
+                name,
+                from,
+                to,
+                inner,
+            } => self.sum(
+                scope,
+                Loop {
+                    at: *at,
+                    name,
+                    from,
+                    to,
+                },
+                inner,
+                counter,
+            ),
             Expr::Call { at, name, args } => self.call(scope, *at, name, args.as_slice(), counter),
             Expr::Add { items, .. } => self.items(scope, items.as_slice(), counter),
             Expr::Mul { factors, .. } => self.factors(scope, factors.as_slice(), counter),
@@ -188,7 +116,13 @@ impl Unroller<'_> {
 
     /// A power, behind its node.
     #[cycle(expr)]
-    fn pow<'a>(&self, scope: &[Bound<'a>], base: &'a Expr, exponent: &'a Idx, counter: &mut Counter) -> Result<(), LangFault>
+    fn pow<'a>(
+        &self,
+        scope: &[Bound<'a>],
+        base: &'a Expr,
+        exponent: &'a Idx,
+        counter: &mut Counter,
+    ) -> Result<(), LangFault>
         ensures { Walks (counts_of counter.old) (tree_events (program_of self.now.body.now) (scope_of scope.now) (tree_of base.now) ++ index_events (scope_of scope.now) (index_of exponent.now)) result (counts_of counter.new) }
     {
         self.expr(scope, base, counter)?;
@@ -198,7 +132,13 @@ impl Unroller<'_> {
 
     /// A sum over the turns of a loop, behind its node.
     #[cycle(expr)]
-    fn sum<'a>(&self, scope: &[Bound<'a>], ahead: Loop<'a>, inner: &'a Expr, counter: &mut Counter) -> Result<(), LangFault>
+    fn sum<'a>(
+        &self,
+        scope: &[Bound<'a>],
+        ahead: Loop<'a>,
+        inner: &'a Expr,
+        counter: &mut Counter,
+    ) -> Result<(), LangFault>
         ensures { Walks (counts_of counter.old) (range_events (scope_of scope.now) (index_of ahead.entry.from.now) (index_of ahead.entry.to.now) ++ flat_map (λ value. tree_events (program_of self.now.body.now) (inside (scope_of scope.now) ahead.entry.name.now value) (tree_of inner.now)) (turns (index_value (scope_of scope.now) (index_of ahead.entry.from.now)) (index_value (scope_of scope.now) (index_of ahead.entry.to.now)))) result (counts_of counter.new) }
     {
         let bounds = counter.range(scope, ahead)?;
@@ -207,7 +147,14 @@ impl Unroller<'_> {
 
     /// The turns of a sum.
     #[cycle(expr)]
-    fn sum_turns<'a>(&self, scope: &[Bound<'a>], name: &'a Bytes, bounds: (u32, u32), inner: &'a Expr, counter: &mut Counter) -> Result<(), LangFault>
+    fn sum_turns<'a>(
+        &self,
+        scope: &[Bound<'a>],
+        name: &'a Bytes,
+        bounds: (u32, u32),
+        inner: &'a Expr,
+        counter: &mut Counter,
+    ) -> Result<(), LangFault>
         ensures { Walks (counts_of counter.old) (flat_map (λ value. tree_events (program_of self.now.body.now) (inside (scope_of scope.now) name.now value) (tree_of inner.now)) (turns bounds.0 bounds.1)) result (counts_of counter.new) }
     {
         let (from, to) = bounds;
@@ -223,7 +170,12 @@ impl Unroller<'_> {
 
     /// The items of a sum.
     #[cycle(expr)]
-    fn items<'a>(&self, scope: &[Bound<'a>], items: &'a [Item], counter: &mut Counter) -> Result<(), LangFault>
+    fn items<'a>(
+        &self,
+        scope: &[Bound<'a>],
+        items: &'a [Item],
+        counter: &mut Counter,
+    ) -> Result<(), LangFault>
         ensures { Walks (counts_of counter.old) (items_events (program_of self.now.body.now) (scope_of scope.now) (tree.items (map item_of items.entry.now))) result (counts_of counter.new) }
     {
         for item in items {
@@ -234,7 +186,12 @@ impl Unroller<'_> {
 
     /// The factors of a product.
     #[cycle(expr)]
-    fn factors<'a>(&self, scope: &[Bound<'a>], factors: &'a [Expr], counter: &mut Counter) -> Result<(), LangFault>
+    fn factors<'a>(
+        &self,
+        scope: &[Bound<'a>],
+        factors: &'a [Expr],
+        counter: &mut Counter,
+    ) -> Result<(), LangFault>
         ensures { Walks (counts_of counter.old) (factors_events (program_of self.now.body.now) (scope_of scope.now) (tree.trees (map tree_of factors.entry.now))) result (counts_of counter.new) }
     {
         for factor in factors {
@@ -245,7 +202,14 @@ impl Unroller<'_> {
 
     /// A call, behind its node.
     #[cycle(expr)]
-    fn call<'a>(&self, scope: &[Bound<'a>], at: u32, name: &'a Bytes, args: &'a [Arg], counter: &mut Counter) -> Result<(), LangFault>
+    fn call<'a>(
+        &self,
+        scope: &[Bound<'a>],
+        at: u32,
+        name: &'a Bytes,
+        args: &'a [Arg],
+        counter: &mut Counter,
+    ) -> Result<(), LangFault>
         ensures { Walks (counts_of counter.old) (args_events (program_of self.now.body.now) (scope_of scope.now) (tree.arguments (map arg_of args.entry.now)) ++ call_events (program_of self.now.body.now).gadgets at (gadget_number (program_of self.now.body.now).gadgets name.now) (args_count (scope_of scope.now) (tree.arguments (map arg_of args.entry.now)))) result (counts_of counter.new) }
     {
         let count = self.args(scope, args, counter)?;
@@ -254,7 +218,12 @@ impl Unroller<'_> {
 
     /// Arguments: how many.
     #[cycle(expr)]
-    fn args<'a>(&self, scope: &[Bound<'a>], args: &'a [Arg], counter: &mut Counter) -> Result<u32, LangFault>
+    fn args<'a>(
+        &self,
+        scope: &[Bound<'a>],
+        args: &'a [Arg],
+        counter: &mut Counter,
+    ) -> Result<u32, LangFault>
         ensures walked { Walks (counts_of counter.old) (args_events (program_of self.now.body.now) (scope_of scope.now) (tree.arguments (map arg_of args.entry.now))) result (counts_of counter.new) }
         ensures count { IfOk result (λ count. count ≡ args_count (scope_of scope.now) (tree.arguments (map arg_of args.entry.now))) }
         ensures met { IfOk result (λ count. count + counter.old.visits ≤ counter.new.visits) }
@@ -271,7 +240,12 @@ impl Unroller<'_> {
 
     /// An argument, or more of them over the turns of a loop: how many.
     #[cycle(expr)]
-    fn arg<'a>(&self, scope: &[Bound<'a>], arg: &'a Arg, counter: &mut Counter) -> Result<u32, LangFault>
+    fn arg<'a>(
+        &self,
+        scope: &[Bound<'a>],
+        arg: &'a Arg,
+        counter: &mut Counter,
+    ) -> Result<u32, LangFault>
         ensures walked { Walks (counts_of counter.old) (arg_events (program_of self.now.body.now) (scope_of scope.now) (arg_of arg.now)) result (counts_of counter.new) }
         ensures count { IfOk result (λ count. count ≡ arg_count (scope_of scope.now) (arg_of arg.now)) }
         ensures met { IfOk result (λ count. count + counter.old.visits ≤ counter.new.visits) }
@@ -281,13 +255,35 @@ impl Unroller<'_> {
                 self.expr(scope, expr, counter)?;
                 Ok(1)
             }
-            Arg::Each { at, name, from, to, inner } => self.each_arg(scope, Loop { at: *at, name, from, to }, inner.as_slice(), counter),
+            Arg::Each {
+                at,
+                name,
+                from,
+                to,
+                inner,
+            } => self.each_arg(
+                scope,
+                Loop {
+                    at: *at,
+                    name,
+                    from,
+                    to,
+                },
+                inner.as_slice(),
+                counter,
+            ),
         }
     }
 
     /// Arguments over the turns of a loop: how many.
     #[cycle(expr)]
-    fn each_arg<'a>(&self, scope: &[Bound<'a>], ahead: Loop<'a>, inner: &'a [Arg], counter: &mut Counter) -> Result<u32, LangFault>
+    fn each_arg<'a>(
+        &self,
+        scope: &[Bound<'a>],
+        ahead: Loop<'a>,
+        inner: &'a [Arg],
+        counter: &mut Counter,
+    ) -> Result<u32, LangFault>
         ensures walked { Walks (counts_of counter.old) (arg_events (program_of self.now.body.now) (scope_of scope.now) (tree.each_arg ahead.entry.at ahead.entry.name.now (index_of ahead.entry.from.now) (index_of ahead.entry.to.now) (tree.arguments (map arg_of inner.entry.now)))) result (counts_of counter.new) }
         ensures count { IfOk result (λ count. count ≡ arg_count (scope_of scope.now) (tree.each_arg ahead.entry.at ahead.entry.name.now (index_of ahead.entry.from.now) (index_of ahead.entry.to.now) (tree.arguments (map arg_of inner.entry.now)))) }
         ensures met { IfOk result (λ count. count + counter.old.visits ≤ counter.new.visits) }
@@ -300,7 +296,14 @@ impl Unroller<'_> {
 
     /// The turns of a loop of arguments: how many arguments.
     #[cycle(expr)]
-    fn arg_turns<'a>(&self, scope: &[Bound<'a>], name: &'a Bytes, bounds: (u32, u32), inner: &'a [Arg], counter: &mut Counter) -> Result<u32, LangFault>
+    fn arg_turns<'a>(
+        &self,
+        scope: &[Bound<'a>],
+        name: &'a Bytes,
+        bounds: (u32, u32),
+        inner: &'a [Arg],
+        counter: &mut Counter,
+    ) -> Result<u32, LangFault>
         ensures walked { Walks (counts_of counter.old) (flat_map (λ value. args_events (program_of self.now.body.now) (inside (scope_of scope.now) name.now value) (tree.arguments (map arg_of inner.entry.now))) (turns bounds.0 bounds.1)) result (counts_of counter.new) }
         ensures count { IfOk result (λ count. count ≡ sum_by (λ value. args_count (inside (scope_of scope.now) name.now value) (tree.arguments (map arg_of inner.entry.now))) (turns bounds.0 bounds.1)) }
         ensures met { IfOk result (λ count. count + counter.old.visits ≤ counter.new.visits) }
@@ -318,60 +321,5 @@ impl Unroller<'_> {
             within.truncate(scope.len());
         }
         Ok(count)
-    }
-
-    /// Statements.
-    #[cycle(stmt)]
-    fn stmts<'a>(&self, scope: &[Bound<'a>], stmts: &'a [Stmt], counter: &mut Counter) -> Result<(), LangFault>
-        ensures { Walks (counts_of counter.old) (stmts_events (program_of self.now.body.now) (scope_of scope.now) (tree.statements (map statement_of stmts.entry.now))) result (counts_of counter.new) }
-    {
-        for stmt in stmts {
-            self.stmt(scope, stmt, counter)?;
-        }
-        Ok(())
-    }
-
-    /// A statement.
-    #[cycle(stmt)]
-    fn stmt<'a>(&self, scope: &[Bound<'a>], stmt: &'a Stmt, counter: &mut Counter) -> Result<(), LangFault>
-        ensures { Walks (counts_of counter.old) (stmt_events (program_of self.now.body.now) (scope_of scope.now) (statement_of stmt.now)) result (counts_of counter.new) }
-    {
-        counter.visit()?;
-        match stmt {
-            Stmt::Check { expr, .. } => {
-                counter.check()?;
-                self.expr(scope, expr, counter)
-            }
-            Stmt::Out { expr, .. } => {
-                counter.output()?;
-                self.expr(scope, expr, counter)
-            }
-            Stmt::Each { at, name, from, to, inner } => self.each(scope, Loop { at: *at, name, from, to }, inner.as_slice(), counter),
-        }
-    }
-
-    /// Statements over the turns of a loop, behind its node.
-    #[cycle(stmt)]
-    fn each<'a>(&self, scope: &[Bound<'a>], ahead: Loop<'a>, inner: &'a [Stmt], counter: &mut Counter) -> Result<(), LangFault>
-        ensures { Walks (counts_of counter.old) (range_events (scope_of scope.now) (index_of ahead.entry.from.now) (index_of ahead.entry.to.now) ++ flat_map (λ value. stmts_events (program_of self.now.body.now) (inside (scope_of scope.now) ahead.entry.name.now value) (tree.statements (map statement_of inner.entry.now))) (turns (index_value (scope_of scope.now) (index_of ahead.entry.from.now)) (index_value (scope_of scope.now) (index_of ahead.entry.to.now)))) result (counts_of counter.new) }
-    {
-        let bounds = counter.range(scope, ahead)?;
-        self.stmt_turns(scope, ahead.name, bounds, inner, counter)
-    }
-
-    /// The turns of a loop of statements.
-    #[cycle(stmt)]
-    fn stmt_turns<'a>(&self, scope: &[Bound<'a>], name: &'a Bytes, bounds: (u32, u32), inner: &'a [Stmt], counter: &mut Counter) -> Result<(), LangFault>
-        ensures { Walks (counts_of counter.old) (flat_map (λ value. stmts_events (program_of self.now.body.now) (inside (scope_of scope.now) name.now value) (tree.statements (map statement_of inner.entry.now))) (turns bounds.0 bounds.1)) result (counts_of counter.new) }
-    {
-        let (from, to) = bounds;
-        let name = name.as_slice();
-        let mut within = scope.to_vec(self.alloc)?;
-        for value in from..to {
-            within.push(Bound { name, value })?;
-            self.stmts(&within, inner, counter)?;
-            within.truncate(scope.len());
-        }
-        Ok(())
     }
 }

@@ -5,3 +5,13 @@ pub mod Rests
 pub mod Values
 -- sums and products as far as they have come
 pub mod Parts
+-- coefficients
+pub mod Scaling
+-- runs that are emitted one after another
+pub mod Adding
+-- what is emitted into a form
+pub mod Forming
+-- forms that are listed
+pub mod Listing
+-- runs of public expressions, and products with one shared factor
+pub mod PlainRuns

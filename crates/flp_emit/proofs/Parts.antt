@@ -1,14 +1,13 @@
 -- Sums and products of runs as far as they have come.
-use Rattle.std.proofs.Common.{ℕ, suc, ◌≡◌, ◌+◌, ◌-◌, ◌*◌, ◌<◌, ◌≤◌, Bool, true, false, ◌||◌, List, [], ◌∷◌, ◌++◌, length, get_or, refl, sym, ap, ap₂, ◌∙◌, Option, None, Some, IfSome, add-zero, add-one, arith}
-use Rattle.std.specs.Prelude.{slice_index}
+use Rattle.std.proofs.Common.{ℕ, suc, ◌≡◌, ◌+◌, ◌-◌, ◌*◌, ◌<◌, ◌≤◌, Bool, true, false, ◌||◌, List, [], ◌∷◌, ◌++◌, length, get_or, refl, sym, ap, ap₂, ◌∙◌, Option, None, Some, add-zero, add-one, arith}
 use Rattle.flp_syntax.specs.Tree.{Tree, Trees, tree_on, Items, item_on}
 use Rattle.flp_syntax.specs.Sorts.{is_shared, has_shared, has_shared_item}
 use Rattle.flp_syntax.specs.Scope.{turns, numbers_from}
-use Rattle.flp_meaning.specs.Meaning.{Reading, Run, Meant, plain, then_run, in_turn, changed}
-use Rattle.flp_forms.specs.PublicValues.{publics, public_at}
+use Rattle.flp_meaning.specs.Meaning.{Reading, Run, plain, then_run, changed}
+use Rattle.flp_forms.specs.PublicValues.{publics}
 use Rattle.flp_forms.specs.StraightLine.{StraightLine, Grows, StandsFor}
-use Rattle.flp_forms.proofs.LineLemmas.{grows_refl, grows_trans, length-grows, public_at-grows}
-use Rattle.flp_emit.specs.Standing.{Stands, Makes, MakesValue, Remains, so_far}
+use Rattle.flp_forms.proofs.LineLemmas.{grows_refl, grows_trans, public_at-grows}
+use Rattle.flp_emit.specs.Standing.{Makes, MakesValue, Remains, so_far}
 
 -- before any part the rest is the whole
 pub remains_all : (line : StraightLine) (none : ℕ) (join : ℕ → ℕ → ℕ) (whole : Reading → Run ℕ) → ((n : ℕ) → n ≡ join none n)
@@ -141,3 +140,7 @@ first_item_public minus x more h = or_left (is_shared x) (has_shared_item more) 
 
 pub rest_items_public : (minus : Bool) (x : Tree) (more : Items) → has_shared_item (item_on minus x more) ≡ false → has_shared_item more ≡ false
 rest_items_public minus x more h = or_right (is_shared x) (has_shared_item more) h
+
+-- behind a public factor a shared one is left
+pub rest_shared : (x : Tree) (more : Trees) → is_shared x ≡ false → has_shared (tree_on x more) ≡ true → has_shared more ≡ true
+rest_shared x more public h = sym (ap (λ b. b || has_shared more) public) ∙ h

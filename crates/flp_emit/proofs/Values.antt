@@ -1,8 +1,8 @@
 -- Values that are made of the values of steps.
-use Rattle.std.proofs.Common.{ℕ, ◌≡◌, ◌+◌, ◌-◌, ◌*◌, ◌<◌, List, length, get_or, refl, sym, ap, ap₂, ◌∙◌, arith}
-use Rattle.flp_forms.specs.PublicValues.{publics, public_at}
+use Rattle.std.proofs.Common.{ℕ, ◌<◌, length, get_or, refl, sym, ap, ap₂, ◌∙◌, arith}
+use Rattle.flp_forms.specs.PublicValues.{public_at}
 use Rattle.flp_forms.specs.StraightLine.{StraightLine, Grows, StandsFor}
-use Rattle.flp_forms.proofs.LineLemmas.{grows_refl, grows_trans, length-grows, public_at-grows, stands_kept}
+use Rattle.flp_forms.proofs.LineLemmas.{grows_refl, grows_trans, length-grows, public_at-grows}
 use Rattle.flp_emit.specs.Standing.{MakesValue}
 
 -- a step that is there already

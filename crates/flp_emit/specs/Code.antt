@@ -1,6 +1,6 @@
 -- The code of a circuit: under all joint words and on every share its forms have the values of the circuit that is read with a list of answers.
 -- From the values of forms up to the tie.
-use Rattle.std.specs.Prelude.{ℕ, ◌≡◌, ◌%◌, ◌≤◌, ◌<◌, List, length, map, All, slice_get, slice_range, Some}
+use Rattle.std.specs.Prelude.{ℕ, ◌≡◌, ◌%◌, ◌≤◌, List, length, map, All, slice_get, slice_range, Some}
 use Rattle.flp_field.specs.Word.{modulus}
 use Rattle.flp_syntax.specs.Tree.{Program}
 use Rattle.flp_meaning.specs.Meaning.{Call, Reading}

@@ -1,9 +1,12 @@
--- What the compiler's core promises: which circuits it takes, and what the code that it makes is.
+-- What the compiler's core promises, from the circuits that it takes to the code that it makes; and behind that what its own functions promise each
+-- other.
 -- circuits in which nothing is out of range and every form is linear
 pub mod Fitting
 -- the code of a circuit
 pub mod Code
 -- the loops round a place, as the program keeps them
 pub mod Scopes
--- public values that are made
+-- public values as they are made
 pub mod Standing
+-- how the code grows while parts of a circuit are emitted
+pub mod Emitting

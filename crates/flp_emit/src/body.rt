@@ -6,15 +6,49 @@ ghost use Rattle.flp_emit.specs.Code.{Tied};
 
 use crate::Memory;
 use crate::code::Code;
+use crate::made::{Done, Made};
+use crate::stmt::perform;
+use flp_forms::{Forms, Steps};
+use flp_list::List;
 use flp_syntax::Body;
 use std::alloc::Global;
 
 /// The code of a circuit whose indices are in range and whose forms are linear.
 ///
-/// Loops are unrolled: it takes time and memory by the nodes that are met, and stack by the depth of the text.
+/// Loops are unrolled: it takes time and memory by the nodes that are met, and stack by the depth of the text. The one
+/// error is want of memory, and a list of 2^32 public values, calls or inputs counts as that.
 pub fn emit(alloc: Global, body: &Body) -> Result<Code, Memory>
     requires { ProgramFits (program_of body.now) }
     ensures { IfOk result (λ code. Tied (program_of body.now) code) }
 {
-    Err(Memory)
+    let mut made = Made {
+        steps: Steps::new(alloc, body.joint as u32)?,
+        calls: Vec::new(alloc),
+        inputs: Forms::new(alloc),
+    };
+    let mut done = Done {
+        checks: Forms::new(alloc),
+        outs: Forms::new(alloc),
+    };
+    perform(
+        alloc,
+        body,
+        &[],
+        &mut made,
+        &mut done,
+        body.stmts.as_slice(),
+    )?;
+    let Made {
+        steps,
+        calls,
+        inputs,
+    } = made;
+    let Done { checks, outs } = done;
+    Ok(Code {
+        steps,
+        calls: List::from_vec(calls),
+        inputs,
+        checks,
+        outs,
+    })
 }

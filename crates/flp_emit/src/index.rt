@@ -6,8 +6,24 @@ ghost use Rattle.flp_syntax.specs.View.{index_of, index_item_of};
 ghost use Rattle.flp_emit.specs.Fitting.{IndexFits, SumFits, ProductFits};
 ghost use Rattle.flp_emit.specs.Scopes.{scope_of, moved, CanMove};
 
-use crate::scope::{Bound, bound_value};
+use crate::scope::{Bound, Turns, bound_value};
+use flp_list::Bytes;
 use flp_syntax::{Idx, IdxItem};
+
+/// The turns of a loop with this variable and these bounds.
+pub(crate) fn turns_of<'a>(scope: &[Bound], name: &'a Bytes, from: &Idx, to: &Idx) -> Turns<'a>
+    requires from { IndexFits (scope_of scope.now) (index_of from.now) }
+    requires to { IndexFits (scope_of scope.now) (index_of to.now) }
+    ensures name { result.name.now ≡ name.now }
+    ensures from { result.from ≡ index_value (scope_of scope.now) (index_of from.now) }
+    ensures to { result.to ≡ index_value (scope_of scope.now) (index_of to.now) }
+{
+    Turns {
+        name: name.as_slice(),
+        from: index_value(scope, from),
+        to: index_value(scope, to),
+    }
+}
 
 /// The value of an index.
 #[cycle(index)]

@@ -1,5 +1,5 @@
 //! Public expressions: each becomes a step.
-ghost use Rattle.std.specs.Prelude.{◌≡◌, ◌≤◌, ◌<◌, ℕ, false, map, IfOk};
+ghost use Rattle.std.specs.Prelude.{◌≡◌, ◌≤◌, ◌<◌, ℕ, false, map, length, IfOk};
 ghost use Rattle.flp_syntax.specs.Tree.{items, trees};
 ghost use Rattle.flp_syntax.specs.Sorts.{is_shared, has_shared_item, has_shared};
 ghost use Rattle.flp_syntax.specs.Scope.{inside, turns};
@@ -7,14 +7,17 @@ ghost use Rattle.flp_syntax.specs.View.{tree_of, item_of, program_of};
 ghost use Rattle.flp_meaning.specs.Meaning.{meaning, items_of, factors_of, total, product};
 ghost use Rattle.flp_emit.specs.Fitting.{TreeFits, ItemsFit, FactorsFit};
 ghost use Rattle.flp_emit.specs.Scopes.{scope_of};
+ghost use Rattle.flp_forms.specs.LinearForms.{ScaleFits};
+ghost use Rattle.flp_emit.specs.Emitting.{public_part, public_parts, ScalesRun};
 ghost use Rattle.flp_emit.specs.Standing.{Makes};
 
 use crate::Memory;
-use crate::index::index_value;
+use crate::index::{index_value, turns_of};
 use crate::scope::{Bound, Turns, bound_value, inside};
-use crate::value::{added, constant, multiplied, number, raised, settled, with_sign};
+use crate::sorts::is_shared;
+use crate::value::{added, constant, multiplied, number, raised, scaled, settled, with_sign};
 use flp_field::Fe;
-use flp_forms::Steps;
+use flp_forms::{Scale, Steps};
 use flp_syntax::{Body, Expr, Item};
 use std::alloc::Global;
 
@@ -47,11 +50,7 @@ pub(crate) fn public_step<'a>(
             inner,
             ..
         } => {
-            let over = Turns {
-                name: name.as_slice(),
-                from: index_value(scope, from),
-                to: index_value(scope, to),
-            };
+            let over = turns_of(scope, name, from, to);
             public_turns(alloc, body, scope, steps, over, inner)
         }
         Expr::Add { items, .. } => public_sum(alloc, body, scope, steps, items.as_slice()),
@@ -136,4 +135,48 @@ fn public_product<'a>(
     }
     let all = settled(steps, product, Fe::ONE)?;
     Ok(all)
+}
+
+/// The coefficient times the public factors of a product.
+pub(crate) fn public_scale<'a>(
+    alloc: Global,
+    body: &Body,
+    scope: &[Bound<'a>],
+    steps: &mut Steps,
+    scale: Scale,
+    factors: &'a [Expr],
+) -> Result<Scale, Memory>
+    requires joint { steps.old.joint ≡ body.now.joint }
+    requires fits { FactorsFit (program_of body.now) (scope_of scope.now) (trees (map tree_of factors.now)) }
+    requires scale { ScaleFits (length steps.old.steps) scale }
+    ensures { IfOk result (λ after. ScalesRun steps.old steps.new scale after (λ reading. product (public_parts (program_of body.now).gadgets reading (scope_of scope.now) (trees (map tree_of factors.entry.now))))) }
+{
+    let mut all = scale;
+    for factor in factors {
+        all = public_factor(alloc, body, scope, steps, all, factor)?;
+    }
+    Ok(all)
+}
+
+/// The coefficient times a factor, if that is public.
+fn public_factor<'a>(
+    alloc: Global,
+    body: &Body,
+    scope: &[Bound<'a>],
+    steps: &mut Steps,
+    scale: Scale,
+    factor: &'a Expr,
+) -> Result<Scale, Memory>
+    requires joint { steps.old.joint ≡ body.now.joint }
+    requires fits { TreeFits (program_of body.now) (scope_of scope.now) (tree_of factor.now) }
+    requires scale { ScaleFits (length steps.old.steps) scale }
+    ensures { IfOk result (λ after. ScalesRun steps.old steps.new scale after (λ reading. public_part (program_of body.now).gadgets reading (scope_of scope.now) (tree_of factor.now))) }
+{
+    if is_shared(factor) {
+        Ok(scale)
+    } else {
+        let step = public_step(alloc, body, scope, steps, factor)?;
+        let after = scaled(steps, scale, step)?;
+        Ok(after)
+    }
 }

@@ -1,8 +1,11 @@
 //! Which expressions are shared.
-ghost use Rattle.std.specs.Prelude.{◌≡◌, map};
+ghost use Rattle.std.specs.Prelude.{◌≡◌, ◌<◌, true, map, length, slice_index_or};
+ghost use Rattle.flp_syntax.specs.declared.syntax.Expr as tree;
 ghost use Rattle.flp_syntax.specs.Tree.{items, trees};
 ghost use Rattle.flp_syntax.specs.Sorts.{is_shared, has_shared_item, has_shared};
 ghost use Rattle.flp_syntax.specs.View.{tree_of, item_of};
+ghost use Rattle.flp_emit.specs.Fitting.{IsLinear};
+ghost use Rattle.flp_emit.specs.Emitting.{IsOneShared};
 
 use flp_syntax::{Expr, Item};
 
@@ -48,4 +51,19 @@ pub(crate) fn has_shared(factors: &[Expr]) -> bool
         }
     }
     false
+}
+
+/// The place of the one shared factor of a product.
+pub(crate) fn shared_place(factors: &[Expr]) -> usize
+    requires shared { has_shared (trees (map tree_of factors.now)) ≡ true }
+    requires linear { IsLinear (trees (map tree_of factors.now)) }
+    ensures within { result < length factors.now }
+    ensures one { (factor : tree.Expr) → factor ≡ slice_index_or factors.now result factor → IsOneShared (tree_of factor) (trees (map tree_of factors.now)) }
+{
+    for (place, factor) in factors.iter().enumerate() {
+        if is_shared(factor) {
+            return place;
+        }
+    }
+    unreachable!()
 }

@@ -2,11 +2,13 @@
 ghost use Rattle.std.specs.Prelude.{◌≡◌, ◌+◌, ◌-◌, ◌*◌, ◌^◌, ◌<◌, length, slice_index, IfOk, IfSome};
 ghost use Rattle.flp_field.specs.Word.{modulus};
 ghost use Rattle.flp_meaning.specs.Meaning.{signed};
+ghost use Rattle.flp_forms.specs.LinearForms.{ScaleFits};
+ghost use Rattle.flp_emit.specs.Emitting.{sign_factor, Scales};
 ghost use Rattle.flp_emit.specs.Standing.{so_far, MakesValue};
 
 use crate::Memory;
 use flp_field::Fe;
-use flp_forms::Steps;
+use flp_forms::{Scale, Steps};
 
 /// A step of a number of 32 bits.
 pub(crate) fn number(steps: &mut Steps, value: u32) -> Result<u32, Memory>
@@ -100,4 +102,28 @@ pub(crate) fn minus_one(steps: &mut Steps) -> Result<u32, Memory>
 {
     let step = constant(steps, Fe::ONE.neg())?;
     Ok(step)
+}
+
+/// A coefficient times the value of a step.
+pub(crate) fn scaled(steps: &mut Steps, scale: Scale, step: u32) -> Result<Scale, Memory>
+    requires scale { ScaleFits (length steps.old.steps) scale }
+    requires step { step < length steps.old.steps }
+    ensures { IfOk result (λ after. Scales steps.old steps.new scale after (λ values. slice_index values step)) }
+{
+    let factor = steps.scale_of(step);
+    let after = steps.scale_product(scale, factor)?;
+    Ok(after)
+}
+
+/// A coefficient with the sign of an item of a sum.
+pub(crate) fn scale_with_sign(steps: &mut Steps, minus: bool, scale: Scale) -> Result<Scale, Memory>
+    requires { ScaleFits (length steps.old.steps) scale }
+    ensures { IfOk result (λ after. Scales steps.old steps.new scale after (λ _. sign_factor minus)) }
+{
+    if minus {
+        let after = steps.scale_product(scale, Scale::MinusOne)?;
+        Ok(after)
+    } else {
+        Ok(scale)
+    }
 }

@@ -1,9 +1,8 @@
 -- Public values when steps are appended, and modulo p. From the values behind given ones up.
-use Rattle.std.proofs.Common.{ℕ, zero, suc, ◌≡◌, ◌+◌, ◌*◌, ◌%◌, ◌<◌, ◌≤◌, List, [], ◌∷◌, ◌++◌, length, get_or, map, take, set, refl, ap, ap₂, sym, subst, ◌∙◌, arith, Some, length-append}
+use Rattle.std.proofs.Common.{ℕ, zero, suc, ◌≡◌, ◌+◌, ◌*◌, ◌%◌, ◌<◌, List, [], ◌∷◌, ◌++◌, length, get_or, take, set, refl, ap, ap₂, sym, ◌∙◌, arith, Some}
 use Rattle.std.specs.Prelude.{fold, slice_get}
 use Rattle.std.proofs.lemmas.List.{get_or_append_left, get_or_push, length_push, take_more, take_more_set, map_push}
 use Rattle.std.proofs.lemmas.List.Sums.{fold-append}
-use Rattle.std.proofs.lemmas.Option.{slice_get_within}
 use Rattle.flp_field.specs.Word.{modulus}
 use Rattle.flp_field.proofs.Congruence.{Same, same_add, same_mul, same_mod}
 use Rattle.flp_forms.specs.declared.step.Step.{Step}

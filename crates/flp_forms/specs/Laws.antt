@@ -1,10 +1,10 @@
 -- The laws of public values and linear forms. From appended steps and terms up to shares.
-use Rattle.std.specs.Prelude.{ℕ, ◌≡◌, ◌+◌, ◌*◌, ◌%◌, ◌<◌, List, ◌++◌, length, All, sum_by, slice_index}
+use Rattle.std.specs.Prelude.{ℕ, ◌≡◌, ◌+◌, ◌*◌, ◌%◌, ◌<◌, List, ◌++◌, length, sum_by, slice_index}
 use Rattle.flp_field.specs.Word.{modulus}
 use Rattle.flp_forms.specs.declared.step.Step.{Step}
 use Rattle.flp_forms.specs.declared.term.Term.{Term}
 use Rattle.flp_forms.specs.PublicValues.{publics, public_at, reduced}
-use Rattle.flp_forms.specs.LinearForms.{Share, form_value, TermFits}
+use Rattle.flp_forms.specs.LinearForms.{Share, form_value, FormFits}
 
 -- the value of a step is that before others were appended
 abbrev pub PublicsAreKept : Type 0
@@ -22,7 +22,7 @@ FormsAreAdditive =
 abbrev pub FormsAreKept : Type 0
 FormsAreKept =
     (steps more : List Step) (joint : List ℕ) (share : Share) (words calls : ℕ) (terms : List Term)
-    → All (TermFits (length steps) words calls) terms
+    → FormFits (length steps) words calls terms
     → form_value (publics (steps ++ more) joint) share terms ≡ form_value (publics steps joint) share terms
 
 -- public values may be taken modulo p
@@ -66,4 +66,4 @@ pub record SameBelow (words calls : ℕ) (one two : Share) : Type 0 where
 abbrev pub FormsReadEarlier : Type 0
 FormsReadEarlier =
     (values : List ℕ) (one two : Share) (publics words calls : ℕ) (terms : List Term) → SameBelow words calls one two
-    → All (TermFits publics words calls) terms → form_value values one terms ≡ form_value values two terms
+    → FormFits publics words calls terms → form_value values one terms ≡ form_value values two terms

@@ -1,5 +1,5 @@
 -- Linear forms and their values, as whole numbers that are not reduced. From a term up to shares.
-use Rattle.std.specs.Prelude.{ℕ, ◌≡◌, ◌+◌, ◌-◌, ◌*◌, ◌<◌, ◌%◌, List, slice_index, sum_by}
+use Rattle.std.specs.Prelude.{ℕ, ◌-◌, ◌*◌, ◌<◌, List, [], All, slice_index, slice_index_or, sum_by}
 use Rattle.flp_field.specs.Word.{modulus}
 use Rattle.flp_forms.specs.declared.term.Term.{Term}
 use Rattle.flp_forms.specs.declared.term.Scale.{Scale}
@@ -52,3 +52,13 @@ SourceFits meas answers (Answer index) = index < answers
 pub record TermFits (publics meas answers : ℕ) (term : Term) : Type 0 where
   pub scale : ScaleFits publics term.scale
   pub source : SourceFits meas answers term.source
+
+-- and so does each term of a form
+abbrev pub FormFits : (publics meas answers : ℕ) → List Term → Type 0
+FormFits publics meas answers terms = All (TermFits publics meas answers) terms
+
+-- ---- lists of forms
+
+-- the form with this number, which has no terms past the end
+abbrev pub form_in : List (List Term) → ℕ → List Term
+form_in forms index = slice_index_or forms index []

@@ -1,5 +1,5 @@
 -- The steps as contracts see them, and what the calls that append promise. From the record up.
-use Rattle.std.specs.Prelude.{ℕ, ◌≡◌, ◌<◌, ◌^◌, List, ◌++◌, length, Option, Some, slice_get}
+use Rattle.std.specs.Prelude.{ℕ, ◌≡◌, ◌<◌, ◌^◌, List, ◌++◌, length, Some, slice_get}
 use Rattle.flp_forms.specs.declared.step.Step.{Step}
 use Rattle.flp_forms.specs.declared.step.Step.TheVariants.{Joint}
 use Rattle.flp_forms.specs.declared.term.Scale.{Scale}

@@ -1,8 +1,8 @@
 //! The value of a linear form.
-ghost use Rattle.std.specs.Prelude.{◌≡◌, ◌+◌, ◌*◌, ◌%◌, ℕ, List, All, length};
+ghost use Rattle.std.specs.Prelude.{◌≡◌, ◌+◌, ◌*◌, ◌%◌, ℕ, List, length};
 ghost use Rattle.flp_field.specs.Word.{modulus};
 ghost use Rattle.flp_forms.specs.PublicValues.{reduced};
-ghost use Rattle.flp_forms.specs.LinearForms.{share_of, form_value, scale_value, source_value, TermFits, ScaleFits, SourceFits};
+ghost use Rattle.flp_forms.specs.LinearForms.{share_of, form_value, scale_value, source_value, FormFits, ScaleFits, SourceFits};
 
 use crate::term::{Scale, Source, Term};
 use flp_field::Fe;
@@ -13,7 +13,7 @@ use flp_field::Fe;
 /// Each term reads a public value, a word or an answer that is there. A coefficient 1 or -1 takes no product,
 /// any other takes one.
 pub fn form_at(terms: &[Term], publics: &[Fe], meas: &[Fe], answers: &[Fe], unit: Fe) -> Fe
-    requires { All (TermFits (length publics.now) (length meas.now) (length answers.now)) terms.now }
+    requires { FormFits (length publics.now) (length meas.now) (length answers.now) terms.now }
     ensures value { result ≡ form_value publics.now (share_of meas.now answers.now unit) terms.now % modulus }
 
     // Where the public values are those of whole numbers modulo p, so is the form's value.

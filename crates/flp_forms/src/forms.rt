@@ -1,8 +1,13 @@
 //! Linear forms, one after another in one array of terms.
-ghost use Rattle.std.specs.Prelude.{◌≡◌, ◌<◌, ◌++◌, ◌∷◌, [], length, IsTrue, ◌↔◌, OnOk, OnErr, slice_get, Some};
+ghost use Rattle.std.specs.Prelude.{ℕ, List, ◌≡◌, ◌+◌, ◌%◌, ◌<◌, ◌≤◌, ◌++◌, ◌∷◌, [], length, take, IsTrue, ◌↔◌, OnOk, OnErr, slice_index};
+ghost use Rattle.flp_field.specs.Word.{modulus};
+ghost use Rattle.flp_forms.specs.PublicValues.{reduced};
+ghost use Rattle.flp_forms.specs.LinearForms.{FormFits, form_in, form_value, share_of};
 
 use crate::Memory;
+use crate::form::form_at;
 use crate::term::Term;
+use flp_field::Fe;
 use std::alloc::Global;
 use std::marker::Model;
 
@@ -58,6 +63,17 @@ impl Forms {
         Ok(())
     }
 
+    /// Adds forms at the end. After want of memory a part of them from the front may have been added.
+    pub fn append(&mut self, other: &Forms) -> Result<(), Memory>
+        ensures ok { OnOk result (self.new ≡ self.old ++ other.now) }
+        ensures err { OnErr result ((count : ℕ) × (self.new ≡ self.old ++ take count other.now)) }
+    {
+        for index in 0..other.len() {
+            self.push(other.at(index))?;
+        }
+        Ok(())
+    }
+
     /// The number of forms.
     pub fn len(&self) -> usize
         ensures { result ≡ length self.now }
@@ -75,9 +91,33 @@ impl Forms {
     /// The terms of the form with this number, from 0, which are lent.
     pub fn at(&self, index: usize) -> &[Term]
         requires { index < length self.now }
-        ensures { slice_get self.now index ≡ Some result.now }
+        ensures { result.now ≡ form_in self.now index }
     {
         let span = self.spans[index];
         &self.terms[span.start..span.end]
+    }
+
+    /// Writes the values of consecutive forms to `out`, from the form `first` on, as many as `out` has places.
+    ///
+    /// Each term of these reads a public value, a word or an answer that is there.
+    pub fn values(
+        &self,
+        first: usize,
+        publics: &[Fe],
+        meas: &[Fe],
+        answers: &[Fe],
+        unit: Fe,
+        out: &mut [Fe],
+    )
+        requires inside { first + length out.old ≤ length self.now }
+        requires fit { (i : ℕ) → i < length out.old → FormFits (length publics.now) (length meas.now) (length answers.now) (form_in self.now (first + i)) }
+        ensures values { (i : ℕ) → i < length out.new → slice_index out.new i ≡ form_value publics.now (share_of meas.now answers.now unit) (form_in self.now (first + i)) % modulus }
+        ensures reduced { (values : List ℕ) → publics.now ≡ reduced values → (i : ℕ) → i < length out.new → slice_index out.new i ≡ form_value values (share_of meas.now answers.now unit) (form_in self.now (first + i)) % modulus }
+    {
+        // The proof reads from here that a form's number fits.
+        let _number = self.len();
+        for i in 0..out.len() {
+            out[i] = form_at(self.at(first + i), publics, meas, answers, unit);
+        }
     }
 }

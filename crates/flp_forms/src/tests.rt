@@ -1,4 +1,7 @@
 //! Public values and forms at numbers that were computed by hand. A coefficient or word -1 is written as p - 1.
+ghost use Rattle.std.specs.Prelude.{ℕ, ◌<◌, IsTrue, length};
+ghost use Rattle.flp_forms.specs.LinearForms.{FormFits, form_in};
+
 use super::*;
 use flp_field::{Fe, MODULUS};
 use std::alloc::Global;
@@ -168,6 +171,48 @@ fn forms_one_after_another(rt: HostRuntime) -> Result<(), Fail> {
     assert_eq!(rt; forms.at(0), first.as_slice());
     assert_eq!(rt; forms.at(1), [].as_slice());
     assert_eq!(rt; forms.at(2), third.as_slice());
+    let mut all = Forms::new(rt.alloc());
+    all.append(&forms)?;
+    all.append(&forms)?;
+    assert_eq!(rt; all.len(), 6);
+    assert_eq!(rt; all.at(3), first.as_slice());
+    Ok(())
+}
+
+/// Whether each term of each form reads what is there.
+fn all_fit(forms: &Forms, publics: usize, meas: usize, answers: usize) -> bool
+    ensures { IsTrue result → (i : ℕ) → i < length forms.now → FormFits publics meas answers (form_in forms.now i) }
+{
+    for index in 0..forms.len() {
+        let form = forms.at(index);
+        if !form.iter().all(|term| term.fits(publics, meas, answers)) {
+            return false;
+        }
+    }
+    true
+}
+
+/// The values of two forms from the first of the forms on: 2 * 10 + unit, and 20 - 5 where `unit` is 1.
+#[test]
+fn values_of_forms(rt: HostRuntime) -> Result<(), Fail> {
+    let publics = words([2])?;
+    let meas = words([10, 20])?;
+    let answers = words([5])?;
+    let mut forms = Forms::new(rt.alloc());
+    forms.push(&[])?;
+    forms.push(&[
+        term(Scale::Value(0), Source::Meas(0)),
+        term(Scale::One, Source::Unit),
+    ])?;
+    forms.push(&[
+        term(Scale::One, Source::Meas(1)),
+        term(Scale::MinusOne, Source::Answer(0)),
+    ])?;
+    let mut out = [Fe::ZERO; 2];
+    if forms.len() == 3 && all_fit(&forms, publics.len(), meas.len(), answers.len()) {
+        forms.values(1, &publics, &meas, &answers, Fe::ONE, &mut out);
+    }
+    assert_eq!(rt; values(rt.alloc(), &out)?.as_slice(), [21, 15].as_slice());
     Ok(())
 }
 

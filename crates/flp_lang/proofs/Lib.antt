@@ -13,3 +13,10 @@ pub mod Made
 pub mod Parsing
 pub mod OneVerdict
 pub mod WellFormed
+pub mod Writing
+pub mod Reprint
+pub mod PrintedIndex
+pub mod PrintedTree
+pub mod PrintedText
+pub mod SpelledTokens
+pub mod ReadBack

@@ -3,6 +3,7 @@ use Rattle.std.proofs.Common.{ℕ, suc, ◌+◌, ◌≤◌, ◌<◌, ◌≡◌, 
 use Rattle.flp_lang.specs.Grammar.{IsIndex, an_index, MoreIndexTerms, no_index_term, plus_index_term, minus_index_term, IsIndexTerm, an_index_term, MoreIndexFactors, no_index_factor, star_index_factor, IsIndexPrim, an_index_number, an_index_var, an_index_group, IsExpr, an_expr, a_minus_expr, MoreTerms, no_term, plus_term, minus_term, IsTerm, a_term, MoreFactors, no_factor, star_factor, IsFactor, a_factor, IsExponent, no_exponent, an_exponent, IsPrim, a_number, a_joint, a_meas, a_meas_or_zero, a_sum, a_call, a_var, a_group, IsArgs, some_args, MoreArgs, no_arg, comma_arg, IsArg, an_arg, an_each_arg, IsStmt, a_check, an_out, an_each, IsStmts, some_stmts, MoreStmts, no_stmt, one_more_stmt, IsCoef, a_coef, a_minus_coef, MoreCoefs, no_coef, one_more_coef, IsKind, a_mul, a_poly, a_psum, IsDecl, a_decl, MoreDecls, no_decl, one_more_decl, IsBody, a_body, IsCircuit, a_standard, a_program}
 use Rattle.flp_syntax.specs.Tree.{Index, index_number, index_var, index_add, index_mul, index_items, indices, index_sum, index_product, index_at, Tree, number, var, joint, meas, meas_or_zero, sum, call, add, mul, pow, items, trees, tree_at, sum_of, product_of, power_of, Argument, arguments, Statement, statements, Kind, Declaration, Program, Text}
 use Rattle.std.proofs.Common.{◌==◌, nat_lt, codes, Result, Ok, Err, IfOk}
+use borrow.Author.Tests.{ltb-true}
 use Rattle.std.specs.List.{prefix_len}
 use Rattle.std.specs.Str.{bytes_eq}
 use Rattle.flp_field.specs.Word.{modulus}
@@ -20,25 +21,23 @@ use Rattle.flp_syntax.specs.declared.syntax.Coef.{Coef}
 use Rattle.flp_syntax.specs.declared.token.Token.{Token}
 use Rattle.flp_syntax.specs.declared.token.Token.TheVariants.{Number, Name, Fixed}
 
--- tokens whose names are names
+-- tokens that a text can have: names are names, and numbers below the modulus
+abbrev pub IsReal : Token → Type 0
+IsReal (Name n) = IsName n
+IsReal (Number n) = n < modulus
+IsReal (Fixed m) = Unit {0}
+
 abbrev pub AreReal : List Token → Type 0
 AreReal [] = Unit {0}
-AreReal (Name n ∷ more) = IsName n × AreReal more
-AreReal (Number n ∷ more) = AreReal more
-AreReal (Fixed m ∷ more) = AreReal more
+AreReal (t ∷ more) = IsReal t × AreReal more
 
 -- from this place on there are few tokens, and their names are names
 pub record Rest (k : ℕ) (s : List Token) : Type 0 where
   pub room : k + length s < 4294967295
   pub real : AreReal s
 
-real-tail : (t : Token) (s : List Token) → AreReal (t ∷ s) → AreReal s
-real-tail (Name n) s h = h.1
-real-tail (Number n) s h = h
-real-tail (Fixed m) s h = h
-
 on : {k : ℕ} {t : Token} {s : List Token} → Rest k (t ∷ s) → Rest (suc k) s
-on {k} {t} {s} h = let i = h.room in record { room = omega arith; real = real-tail t s h.real }
+on {k} {t} {s} h = let i = h.room in record { room = omega arith; real = h.real.1 }
 
 here : {k : ℕ} {t : Token} {s : List Token} → Rest k (t ∷ s) → IsPlace k
 here h = let i = h.room in omega arith
@@ -199,7 +198,7 @@ pub circuit_well : {k k' : ℕ} {s s' : List Token} {v : Text} → IsCircuit k s
 circuit_well (a_standard d) h = tt
 circuit_well (a_program d) h = body_well d h
 
--- names of a text are names
+-- the tokens of a text are such
 
 abbrev RealPiece : Option (Option Token × ℕ) → Type 0
 RealPiece None = Unit {0}
@@ -224,18 +223,18 @@ word-is : (byte : ℕ) (more : List ℕ) → is_name_byte byte ≡ true → take
 word-is byte more e = rw (e, one-plus (prefix_len is_name_byte more)) refl
 
 real-word : (byte : ℕ) (more : List ℕ) → is_letter byte ≡ true → (o : Option Mark) → reserved (byte ∷ take (prefix_len is_name_byte more) more) ≡ o → AreReal (word_token (byte ∷ take (prefix_len is_name_byte more) more) o ∷ [])
-real-word byte more e (Some mark) i = tt
+real-word byte more e (Some mark) i = (tt, tt)
 real-word byte more e None i = ((e, front-bytes more, subst IsUnreserved (sym i) tt), tt)
 
 real-name : (byte : ℕ) (more : List ℕ) → is_letter byte ≡ true → (word : List ℕ) → word ≡ byte ∷ take (prefix_len is_name_byte more) more → AreReal (word_token word (reserved word) ∷ [])
 real-name byte more e word i = subst (λ (w : List ℕ). AreReal (word_token w (reserved w) ∷ [])) (sym i) (real-word byte more e (reserved (byte ∷ take (prefix_len is_name_byte more) more)) refl)
 
 real-symbol : (mark : Option Mark) (bytes : List ℕ) → RealPiece (symbol_piece mark bytes)
-real-symbol (Some mark) bytes = tt
-real-symbol None bytes = real-if (bytes_eq (take 2 bytes) (codes "..")) _ None (λ _. tt) (λ _. tt)
+real-symbol (Some mark) bytes = (tt, tt)
+real-symbol None bytes = real-if (bytes_eq (take 2 bytes) (codes "..")) _ None (λ _. (tt, tt)) (λ _. tt)
 
 real-number : (digits : List ℕ) → RealPiece (number_piece digits)
-real-number digits = real-if (nat_lt (digits_value digits) modulus) _ None (λ _. tt) (λ _. tt)
+real-number digits = real-if (nat_lt (digits_value digits) modulus) _ None (λ e. (ltb-true _ _ e, tt)) (λ _. tt)
 
 real-piece : (text : List ℕ) → RealPiece (piece_of text)
 real-piece [] = tt
@@ -247,11 +246,9 @@ real-piece (byte ∷ more) =
 
 real-append : (token : Option Token) (tokens : List Token) → AreReal (option_to_list token) → AreReal tokens → AreReal (option_to_list token ++ tokens)
 real-append None tokens h i = i
-real-append (Some (Name n)) tokens h i = (h.0, i)
-real-append (Some (Number n)) tokens h i = i
-real-append (Some (Fixed m)) tokens h i = i
+real-append (Some t) tokens h i = (h.0, i)
 
-real_tokens : {text rest : List ℕ} {tokens : List Token} → Reads text rest tokens → AreReal tokens
+pub real_tokens : {text rest : List ℕ} {tokens : List Token} → Reads text rest tokens → AreReal tokens
 real_tokens nothing_read = tt
 real_tokens (piece_read {text = text} {token = token} {tokens = tokens} e d) = real-append token tokens (subst RealPiece e (real-piece text)) (real_tokens d)
 

@@ -4,3 +4,8 @@ pub mod Marks
 pub mod Plan
 pub mod Run
 pub mod Parsed
+pub mod Spelling
+pub mod Print
+pub mod Written
+pub mod Bare
+pub mod ReadBack

@@ -21,5 +21,9 @@ pub mod WireLemmas
 pub mod Decisions
 -- the honest proof
 pub mod Honest
+-- outs
+pub mod Outs
 -- verifiers of shares
 pub mod Verifiers
+-- worked examples
+pub mod Examples

@@ -31,7 +31,7 @@ in_turn_value join none (f ∷ fs) (g ∷ gs) same n m =
     let rest = in_turn_value join none fs gs same.1 (n + length (f n).calls) (m + length (g m).calls) in
     (ap₂ join first.0 rest.0, ap₂ (λ (xs ys : List Call). xs ++ ys) first.1 rest.1)
 
-each_turn_value : (f g : ℕ → Run ℕ) (values : List ℕ) → ((turn : ℕ) → SameValue (f turn) (g turn)) → EachValue (map f values) (map g values)
+pub each_turn_value : (f g : ℕ → Run ℕ) (values : List ℕ) → ((turn : ℕ) → SameValue (f turn) (g turn)) → EachValue (map f values) (map g values)
 unfolding EachValue
 each_turn_value f g [] h = tt
 each_turn_value f g (value ∷ values) h = (h value, each_turn_value f g values h)

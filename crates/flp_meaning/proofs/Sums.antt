@@ -1,5 +1,5 @@
 -- A linear circuit under three answered readings, of which the first is the sum of the others: its checks and the inputs of its calls are sums too.
-use Rattle.std.proofs.Common.{ℕ, zero, suc, ◌≡◌, ◌+◌, ◌-◌, ◌*◌, ◌%◌, Bool, true, false, ◌||◌, cond, List, [], ◌∷◌, ◌++◌, map, length, get_or, refl, ap, sym, subst, ◌∙◌, arith, eqb}
+use Rattle.std.proofs.Common.{ℕ, zero, suc, ◌≡◌, ◌+◌, ◌-◌, ◌*◌, ◌%◌, Bool, true, false, ◌&&◌, ◌||◌, cond, List, [], ◌∷◌, ◌++◌, map, length, get_or, refl, ap, sym, subst, ◌∙◌, arith, eqb}
 use Rattle.std.proofs.lemmas.Bool.{false≢true}
 use Rattle.std.specs.Prelude.{slice_index}
 use Rattle.std.specs.Option.{unwrap_or}
@@ -9,10 +9,10 @@ use Rattle.flp_syntax.specs.Tree.{Tree, number, var, joint, meas, meas_or_zero, 
 use Rattle.flp_syntax.specs.Sorts.{is_shared, has_shared_item, has_shared}
 use Rattle.flp_syntax.specs.Scope.{Scope, inside, index_value, turns, gadget_number}
 use Rattle.flp_meaning.specs.Meaning.{Call, Run, Results, changed, then_run, in_turn, total, product, listed, performed, called, counted, signed, meaning, items_of, factors_of, argument_of, arguments_of, statement_of, statements_of, one_check, one_out, join_results, no_results}
-use Rattle.flp_meaning.specs.Circuit.{calls_of, checks_of}
+use Rattle.flp_meaning.specs.Circuit.{circuit_of, calls_of, checks_of}
 use Rattle.flp_meaning.specs.Gadgets.{calls_to}
 use Rattle.flp_meaning.specs.Wires.{inputs_at}
-use Rattle.flp_meaning.specs.Linear.{HasOneShared, TreeIsLinear, ItemsAreLinear, FactorsAreLinear, ArgumentIsLinear, ArgumentsAreLinear, StatementIsLinear, StatementsAreLinear, IsLinear}
+use Rattle.flp_meaning.specs.Linear.{TreeIsLinear, ItemsAreLinear, FactorsAreLinear, ArgumentIsLinear, ArgumentsAreLinear, StatementIsLinear, StatementsAreLinear, IsLinear}
 use Rattle.flp_meaning.specs.LinearLaws.{IsSumOf, Share, ShareIsSum, read, ChecksAddUp, InputsAddUp, WireInputsAddUp}
 use Rattle.flp_meaning.proofs.Public.{SameValue, in_turn_value, public_tree, public_factors}
 
@@ -113,7 +113,30 @@ adds-units : (r s t k : ℕ) → r ≡ word_sum s t → Adds (r * k) (s * k) (t 
 adds-units r s t k e = adds-times k r s t (adds-word r s t e)
 
 ResultsAdd : Results → Results → Results → Type 0
-ResultsAdd a b c = WordsAdd a.checks b.checks c.checks
+ResultsAdd a b c = WordsAdd a.checks b.checks c.checks × WordsAdd a.outs b.outs c.outs
+
+-- nothing behind a shared factor is shared
+or_right : (a b : Bool) → b ≡ true → (a || b) ≡ true
+or_right true b h = refl
+or_right false b h = h
+
+or_left : (a b : Bool) → a ≡ true → (a || b) ≡ true
+or_left true b h = refl
+or_left false b h = absurd (false≢true h)
+
+and_left : (a b : Bool) → a ≡ true → (a && b) ≡ false → b ≡ false
+and_left true b h e = e
+and_left false b h e = absurd (false≢true h)
+
+both_false : (a b : Bool) → a ≡ false → b ≡ false → (a || b) ≡ false
+both_false true b h e = h
+both_false false b h e = e
+
+behind_public : (in_out behind : Bool) (factors : Trees) → behind ≡ true → FactorsAreLinear in_out behind factors → has_shared factors ≡ false
+behind_public in_out behind no_trees h linear = refl
+behind_public in_out behind (tree_on expr more) h linear =
+    both_false (is_shared expr) (has_shared more) (and_left behind (is_shared expr) h linear.0)
+    (behind_public in_out (behind || is_shared expr) more (or_left behind (is_shared expr) h) linear.2)
 
 -- ---- one circuit under the three readings
 
@@ -133,13 +156,6 @@ module _ (words : List ℕ) (whole left right : Share) (sums : ShareIsSum whole 
         subst (λ l. CallsAdd l (g n).calls (h n).calls) (sym (p.0 n n).1)
             (subst (λ l. CallsAdd [] l (h n).calls) (sym (p.2 n n).1) (subst (λ l. CallsAdd [] [] l) (sym (p.3 n n).1) none)),
       )
-
-  counted_calls : (shared : Bool) (f g h : Run ℕ)
-      → RunsAdd Adds (counted (read words whole) shared f) (counted (read words left) shared g) (counted (read words right) shared h)
-      → (n : ℕ) → CallsAdd (f n).calls (g n).calls (h n).calls
-  unfolding RunsAdd
-  counted_calls true f g h r n = (r n).1
-  counted_calls false f g h r n = (r n).1
 
   all_public : (gadgets : List Declaration) (scope : Scope) (tree : Tree) → is_shared tree ≡ false
       → SameValue (meaning gadgets (read words whole) scope tree) (meaning gadgets (read words left) scope tree)
@@ -216,11 +232,11 @@ module _ (words : List ℕ) (whole left right : Share) (sums : ShareIsSum whole 
 
   check_adds : (f g h : Run ℕ) → RunsAdd Adds f g h → RunsAdd ResultsAdd (changed one_check f) (changed one_check g) (changed one_check h)
   unfolding RunsAdd ResultsAdd
-  check_adds f g h r n = (word_on (word-adds (f n).value (g n).value (h n).value (r n).0) no_words, (r n).1)
+  check_adds f g h r n = ((word_on (word-adds (f n).value (g n).value (h n).value (r n).0) no_words, no_words), (r n).1)
 
-  out_adds : (f g h : Run ℕ) → ((n : ℕ) → CallsAdd (f n).calls (g n).calls (h n).calls) → RunsAdd ResultsAdd (changed one_out f) (changed one_out g) (changed one_out h)
+  out_adds : (f g h : Run ℕ) → RunsAdd Adds f g h → RunsAdd ResultsAdd (changed one_out f) (changed one_out g) (changed one_out h)
   unfolding RunsAdd ResultsAdd
-  out_adds f g h r n = (no_words, r n)
+  out_adds f g h r n = ((no_words, word_on (word-adds (f n).value (g n).value (h n).value (r n).0) no_words), (r n).1)
 
   listed_adds : {fs gs hs : List (Run (List ℕ))} → EachAdd WordsAdd fs gs hs → RunsAdd WordsAdd (listed fs) (listed gs) (listed hs)
   listed_adds each_one = add_in_turn WordsAdd WordsAdd (λ xs ys. xs ++ ys) [] (λ a b c a' b' c' e f. words-append e f) no_words each_one
@@ -230,7 +246,9 @@ module _ (words : List ℕ) (whole left right : Share) (sums : ShareIsSum whole 
 
   performed_adds : {fs gs hs : List (Run Results)} → EachAdd ResultsAdd fs gs hs → RunsAdd ResultsAdd (performed fs) (performed gs) (performed hs)
   unfolding ResultsAdd
-  performed_adds each_one = add_in_turn ResultsAdd ResultsAdd join_results no_results (λ a b c a' b' c' e f. words-append e f) no_words each_one
+  performed_adds each_one =
+      add_in_turn ResultsAdd ResultsAdd join_results no_results
+      (λ a b c a' b' c' e f. (words-append e.0 f.0, words-append e.1 f.1)) (no_words, no_words) each_one
 
   public_product : (gadgets : List Declaration) (scope : Scope) (factors : Trees) → has_shared factors ≡ false
       → SameValue (product (factors_of gadgets (read words whole) scope factors)) (product (factors_of gadgets (read words left) scope factors))
@@ -244,78 +262,79 @@ module _ (words : List ℕ) (whole left right : Share) (sums : ShareIsSum whole 
     in_turn_value (λ a b. a * b) 1 _ _ (public_factors (read words right) (read words right) refl gadgets scope factors h),
   )
 
-  one_factor : (gadgets : List Declaration) (scope : Scope) (expr : Tree) (more : Trees) (shared : Bool) → is_shared expr ≡ shared → HasOneShared (tree_on expr more) → FactorsAreLinear (tree_on expr more)
+  one_factor : (gadgets : List Declaration) (scope : Scope) (expr : Tree) (more : Trees) (shared : Bool) → is_shared expr ≡ shared → (is_shared expr ≡ true → has_shared more ≡ false)
       → (is_shared expr ≡ true → RunsAdd Adds (meaning gadgets (read words whole) scope expr) (meaning gadgets (read words left) scope expr) (meaning gadgets (read words right) scope expr))
       → (has_shared more ≡ true → RunsAdd Adds (product (factors_of gadgets (read words whole) scope more)) (product (factors_of gadgets (read words left) scope more)) (product (factors_of gadgets (read words right) scope more)))
       → (is_shared expr || has_shared more) ≡ true
       → RunsAdd Adds (product (factors_of gadgets (read words whole) scope (tree_on expr more))) (product (factors_of gadgets (read words left) scope (tree_on expr more))) (product (factors_of gadgets (read words right) scope (tree_on expr more)))
-  one_factor gadgets scope expr more true is one_shared linear first rest h =
-      let others = public_product gadgets scope more (one_shared.0 is) in
+  one_factor gadgets scope expr more true is one_shared first rest h =
+      let others = public_product gadgets scope more (one_shared is) in
       times_public _ _ _ _ _ _ (first is) others.0 others.1 others.2 others.3
-  one_factor gadgets scope expr more false is one_shared linear first rest h =
+  one_factor gadgets scope expr more false is one_shared first rest h =
       let front = all_public gadgets scope expr is in
       public_times _ _ _ _ _ _ (rest (subst (λ b. (b || has_shared more) ≡ true) is h)) front.0 front.1 front.2 front.3
 
   mutual
     unfolding RunsAdd
 
-    tree_adds : (gadgets : List Declaration) (scope : Scope) (tree : Tree) → TreeIsLinear tree → is_shared tree ≡ true
+    tree_adds : (gadgets : List Declaration) (scope : Scope) (in_out : Bool) (tree : Tree) → TreeIsLinear in_out tree → is_shared tree ≡ true
         → RunsAdd Adds (meaning gadgets (read words whole) scope tree) (meaning gadgets (read words left) scope tree) (meaning gadgets (read words right) scope tree)
-    tree_adds gadgets scope (number at value) linear h = absurd (false≢true h)
-    tree_adds gadgets scope (var at name) linear h = absurd (false≢true h)
-    tree_adds gadgets scope (joint at index) linear h = absurd (false≢true h)
-    tree_adds gadgets scope (meas at index) linear h = λ n. (adds-word _ _ _ (sums.words (index_value scope index)), no_calls)
-    tree_adds gadgets scope (meas_or_zero at index) linear h = λ n. (adds-word _ _ _ (sums.words (index_value scope index)), no_calls)
-    tree_adds gadgets scope (sum at name from to inner) linear h =
+    tree_adds gadgets scope in_out (number at value) linear h = absurd (false≢true h)
+    tree_adds gadgets scope in_out (var at name) linear h = absurd (false≢true h)
+    tree_adds gadgets scope in_out (joint at index) linear h = absurd (false≢true h)
+    tree_adds gadgets scope in_out (meas at index) linear h = λ n. (adds-word _ _ _ (sums.words (index_value scope index)), no_calls)
+    tree_adds gadgets scope in_out (meas_or_zero at index) linear h = λ n. (adds-word _ _ _ (sums.words (index_value scope index)), no_calls)
+    tree_adds gadgets scope in_out (sum at name from to inner) linear h =
         total_adds
         (each_turn_adds Adds
         (λ turn. meaning gadgets (read words whole) (inside scope name turn) inner)
         (λ turn. meaning gadgets (read words left) (inside scope name turn) inner)
         (λ turn. meaning gadgets (read words right) (inside scope name turn) inner)
         (turns (index_value scope from) (index_value scope to))
-        (λ turn. tree_adds gadgets (inside scope name turn) inner linear h))
-    tree_adds gadgets scope (call at name args) linear h =
-        add_after_call (unwrap_or (gadget_number gadgets name) 0) _ _ _ (listed_adds (arguments_add gadgets scope args linear))
-    tree_adds gadgets scope (add at items) linear h = total_adds (items_add gadgets scope (has_shared_item items) items h linear)
-    tree_adds gadgets scope (mul at factors) linear h = factors_add gadgets scope factors linear.0 linear.1 h
-    tree_adds gadgets scope (pow at base exponent) linear h = absurd (false≢true (sym linear.0 ∙ h))
+        (λ turn. tree_adds gadgets (inside scope name turn) in_out inner linear h))
+    tree_adds gadgets scope in_out (call at name args) linear h =
+        add_after_call (unwrap_or (gadget_number gadgets name) 0) _ _ _ (listed_adds (arguments_add gadgets scope in_out args linear.1))
+    tree_adds gadgets scope in_out (add at items) linear h = total_adds (items_add gadgets scope in_out (in_out && has_shared_item items) (has_shared_item items) items h linear)
+    tree_adds gadgets scope in_out (mul at factors) linear h = factors_add gadgets scope in_out false factors linear h
+    tree_adds gadgets scope in_out (pow at base exponent) linear h = absurd (false≢true (sym linear.0 ∙ h))
 
-    items_add : (gadgets : List Declaration) (scope : Scope) (mixed : Bool) (items : Items) → mixed ≡ true → ItemsAreLinear items
+    items_add : (gadgets : List Declaration) (scope : Scope) (in_out all_shared mixed : Bool) (items : Items) → mixed ≡ true → ItemsAreLinear in_out all_shared items
         → EachAdd Adds (items_of gadgets (read words whole) scope mixed items) (items_of gadgets (read words left) scope mixed items) (items_of gadgets (read words right) scope mixed items)
-    items_add gadgets scope mixed no_items some linear = no_runs
-    items_add gadgets scope false (item_on minus expr more) some linear = absurd (false≢true some)
-    items_add gadgets scope true (item_on minus expr more) some linear =
+    items_add gadgets scope in_out all_shared mixed no_items some linear = no_runs
+    items_add gadgets scope in_out all_shared false (item_on minus expr more) some linear = absurd (false≢true some)
+    items_add gadgets scope in_out all_shared true (item_on minus expr more) some linear =
         run_on
         (signed_adds minus _ _ _
-        (counted_adds (is_shared expr) _ _ _ (λ h. tree_adds gadgets scope expr linear.0 h) (λ h. all_public gadgets scope expr h)))
-        (items_add gadgets scope true more some linear.1)
+        (counted_adds (is_shared expr) _ _ _ (λ h. tree_adds gadgets scope in_out expr linear.1 h) (λ h. all_public gadgets scope expr h)))
+        (items_add gadgets scope in_out all_shared true more some linear.2)
 
-    factors_add : (gadgets : List Declaration) (scope : Scope) (factors : Trees) → HasOneShared factors → FactorsAreLinear factors → has_shared factors ≡ true
+    factors_add : (gadgets : List Declaration) (scope : Scope) (in_out behind : Bool) (factors : Trees) → FactorsAreLinear in_out behind factors → has_shared factors ≡ true
         → RunsAdd Adds (product (factors_of gadgets (read words whole) scope factors)) (product (factors_of gadgets (read words left) scope factors)) (product (factors_of gadgets (read words right) scope factors))
-    factors_add gadgets scope no_trees one_shared linear h = absurd (false≢true h)
-    factors_add gadgets scope (tree_on expr more) one_shared linear h =
-        one_factor gadgets scope expr more (is_shared expr) refl one_shared linear
-        (λ e. tree_adds gadgets scope expr linear.0 e)
-        (λ e. factors_add gadgets scope more one_shared.1 linear.1 e) h
+    factors_add gadgets scope in_out behind no_trees linear h = absurd (false≢true h)
+    factors_add gadgets scope in_out behind (tree_on expr more) linear h =
+        one_factor gadgets scope expr more (is_shared expr) refl
+        (λ e. behind_public in_out (behind || is_shared expr) more (or_right behind (is_shared expr) e) linear.2)
+        (λ e. tree_adds gadgets scope in_out expr linear.1 e)
+        (λ e. factors_add gadgets scope in_out (behind || is_shared expr) more linear.2 e) h
 
-    arguments_add : (gadgets : List Declaration) (scope : Scope) (args : Arguments) → ArgumentsAreLinear args
+    arguments_add : (gadgets : List Declaration) (scope : Scope) (in_out : Bool) (args : Arguments) → ArgumentsAreLinear in_out args
         → EachAdd WordsAdd (arguments_of gadgets (read words whole) scope args) (arguments_of gadgets (read words left) scope args) (arguments_of gadgets (read words right) scope args)
-    arguments_add gadgets scope no_args linear = no_runs
-    arguments_add gadgets scope (arg_on arg more) linear = run_on (argument_adds gadgets scope arg linear.0) (arguments_add gadgets scope more linear.1)
+    arguments_add gadgets scope in_out no_args linear = no_runs
+    arguments_add gadgets scope in_out (arg_on arg more) linear = run_on (argument_adds gadgets scope in_out arg linear.0) (arguments_add gadgets scope in_out more linear.1)
 
-    argument_adds : (gadgets : List Declaration) (scope : Scope) (arg : Argument) → ArgumentIsLinear arg
+    argument_adds : (gadgets : List Declaration) (scope : Scope) (in_out : Bool) (arg : Argument) → ArgumentIsLinear in_out arg
         → RunsAdd WordsAdd (argument_of gadgets (read words whole) scope arg) (argument_of gadgets (read words left) scope arg) (argument_of gadgets (read words right) scope arg)
-    argument_adds gadgets scope (one expr) linear =
+    argument_adds gadgets scope in_out (one expr) linear =
         input_adds _ _ _
-        (counted_adds (is_shared expr) _ _ _ (λ h. tree_adds gadgets scope expr linear h) (λ h. all_public gadgets scope expr h))
-    argument_adds gadgets scope (each_arg at name from to inner) linear =
+        (counted_adds (is_shared expr) _ _ _ (λ h. tree_adds gadgets scope in_out expr linear h) (λ h. all_public gadgets scope expr h))
+    argument_adds gadgets scope in_out (each_arg at name from to inner) linear =
         listed_adds
         (each_turn_adds WordsAdd
         (λ turn. listed (arguments_of gadgets (read words whole) (inside scope name turn) inner))
         (λ turn. listed (arguments_of gadgets (read words left) (inside scope name turn) inner))
         (λ turn. listed (arguments_of gadgets (read words right) (inside scope name turn) inner))
         (turns (index_value scope from) (index_value scope to))
-        (λ turn. listed_adds (arguments_add gadgets (inside scope name turn) inner linear)))
+        (λ turn. listed_adds (arguments_add gadgets (inside scope name turn) in_out inner linear)))
 
   mutual
     unfolding RunsAdd
@@ -324,11 +343,8 @@ module _ (words : List ℕ) (whole left right : Share) (sums : ShareIsSum whole 
         → RunsAdd ResultsAdd (statement_of gadgets (read words whole) scope stmt) (statement_of gadgets (read words left) scope stmt) (statement_of gadgets (read words right) scope stmt)
     statement_adds gadgets scope (check at expr) linear =
         check_adds _ _ _
-        (counted_adds (is_shared expr) _ _ _ (λ h. tree_adds gadgets scope expr linear h) (λ h. all_public gadgets scope expr h))
-    statement_adds gadgets scope (out at expr) linear =
-        out_adds _ _ _
-        (counted_calls (is_shared expr) _ _ _
-        (counted_adds (is_shared expr) _ _ _ (λ h. tree_adds gadgets scope expr linear h) (λ h. all_public gadgets scope expr h)))
+        (counted_adds (is_shared expr) _ _ _ (λ h. tree_adds gadgets scope false expr linear h) (λ h. all_public gadgets scope expr h))
+    statement_adds gadgets scope (out at expr) linear = out_adds _ _ _ (tree_adds gadgets scope true expr linear.1 linear.0)
     statement_adds gadgets scope (each at name from to inner) linear =
         performed_adds
         (each_turn_adds ResultsAdd
@@ -348,9 +364,11 @@ module _ (words : List ℕ) (whole left right : Share) (sums : ShareIsSum whole 
 pub circuit_adds : (body : Program) (words : List ℕ) (whole left right : Share) → IsLinear body → ShareIsSum whole left right
     → WordsAdd (checks_of body (read words whole)) (checks_of body (read words left)) (checks_of body (read words right))
     × CallsAdd (calls_of body (read words whole)) (calls_of body (read words left)) (calls_of body (read words right))
+    × WordsAdd (circuit_of body (read words whole)).value.outs (circuit_of body (read words left)).value.outs (circuit_of body (read words right)).value.outs
 unfolding RunsAdd ResultsAdd
 circuit_adds body words whole left right linear sums =
-    performed_adds words whole left right sums (statements_add words whole left right sums body.gadgets [] body.stmts linear) 0
+    let all = performed_adds words whole left right sums (statements_add words whole left right sums body.gadgets [] body.stmts linear) 0 in
+    (all.0.0, all.1, all.0.1)
 
 first_or_more : (a b c : ℕ) (xs ys zs : List ℕ) → a ≡ word_sum b c → IsSumOf xs ys zs → (k : ℕ)
     → slice_index (a ∷ xs) k ≡ word_sum (slice_index (b ∷ ys) k) (slice_index (c ∷ zs) k)

@@ -168,7 +168,8 @@ module _ (body : Program) (words query : List ℕ) (whole left right : ReportSha
       (checks_of body (proved body right.x words right.proof right.unit))
       × CallsAdd (calls_in whole) (calls_in left) (calls_in right)
   unfolding read_by calls_in
-  circuits_add = circuit_adds body words (read_by whole) (read_by left) (read_by right) linear shares_add
+  circuits_add =
+      let all = circuit_adds body words (read_by whole) (read_by left) (read_by right) linear shares_add in (all.0, all.1)
 
   given : ReportShare → ℕ → ℕ → List ℕ
   given share gadget input = slice_index (seeds_in body share.proof gadget) input ∷ inputs_at input (calls_to gadget (calls_in share))

@@ -22,3 +22,5 @@ pub mod Linear
 pub mod LinearLaws
 -- the laws of proofs
 pub mod ProofLaws
+-- worked examples
+pub mod Examples

@@ -6,7 +6,7 @@ use Rattle.flp_field.specs.Word.{modulus, word_sum}
 use Rattle.flp_field.specs.Sums.{sum_of_lists}
 use Rattle.flp_syntax.specs.Tree.{Program}
 use Rattle.flp_meaning.specs.Meaning.{Reading}
-use Rattle.flp_meaning.specs.Circuit.{checks_of, calls_of, inputs_of_call, answered}
+use Rattle.flp_meaning.specs.Circuit.{circuit_of, checks_of, calls_of, inputs_of_call, answered, outs_of}
 use Rattle.flp_meaning.specs.Gadgets.{calls_to}
 use Rattle.flp_meaning.specs.Wires.{inputs_at}
 use Rattle.flp_meaning.specs.Lengths.{lengths_of}
@@ -55,6 +55,20 @@ WireInputsAddUp =
     (inputs_at input (calls_to gadget (calls_of body (read joint whole))))
     (inputs_at input (calls_to gadget (calls_of body (read joint one))))
     (inputs_at input (calls_to gadget (calls_of body (read joint two))))
+
+-- ---- outs
+
+-- under readings of one encoding the outs are the same, whatever the joint words, the unit and the answers
+abbrev pub OutsReadWordsAlone : Type 0
+OutsReadWordsAlone =
+    (body : Program) (first second : Reading) → IsLinear body → first.meas ≡ second.meas
+    → (circuit_of body first).value.outs ≡ (circuit_of body second).value.outs
+
+-- the outs of a sum of encodings are the sums of their outs
+abbrev pub OutsAddUp : Type 0
+OutsAddUp =
+    (body : Program) (whole one two : List ℕ) → IsLinear body → IsSumOf whole one two
+    → IsSumOf (outs_of body whole) (outs_of body one) (outs_of body two)
 
 -- ---- verifiers
 

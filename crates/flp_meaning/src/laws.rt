@@ -5,10 +5,12 @@ ghost use Rattle.flp_meaning.specs.MeaningLaws.{AnswersDecide, EarlierAnswersDec
 ghost use Rattle.flp_meaning.specs.MeaningLaws.{ChecksAreFixed, OutsAreFixed, AnsweredIsDirect, CallsAreFilled};
 ghost use Rattle.flp_meaning.specs.MeaningLaws.{TrueAnswersAreDirect, InputCountsAreFixed, CallsAreWell};
 ghost use Rattle.flp_meaning.specs.LinearLaws.{ChecksAddUp, InputsAddUp, WireInputsAddUp};
+ghost use Rattle.flp_meaning.specs.LinearLaws.{OutsReadWordsAlone, OutsAddUp};
 ghost use Rattle.flp_meaning.specs.LinearLaws.{VerifiersHaveLength, VerifiersAddUp, VerifiersSumUp};
 ghost use Rattle.flp_meaning.specs.ProofLaws.{FirstIsFound, LeastPower, CallsAreNumbered, DomainsHold, WiresRunThrough};
 ghost use Rattle.flp_meaning.specs.ProofLaws.{HonestProofHasLength, HonestProofHasParts, HonestProofAnswers};
 ghost use Rattle.flp_meaning.specs.ProofLaws.{HonestProofProves, HonestProofIsAccepted, DecisionsMean, TrueProofsAreDirect};
+ghost use Rattle.flp_meaning.specs.Examples.{CountExample, CubeExample, HalfExample, HistogramExample};
 
 /// Two ways to answer that agree on the calls that are made give the same checks, outs and calls. If they
 /// agree on the first k calls, the calls up to the next one are the same.
@@ -42,6 +44,13 @@ pub fn shares_add_up()
     ensures checks { ChecksAddUp }
     ensures inputs { InputsAddUp }
     ensures wires { WireInputsAddUp }
+{}
+
+/// In a linear circuit the outs depend on the encoding alone, and those of a sum of encodings are the sums of
+/// their outs.
+pub fn outs_add_up()
+    ensures alone { OutsReadWordsAlone }
+    ensures sums { OutsAddUp }
 {}
 
 /// A verifier has the length that the circuit says. In a linear circuit the verifiers of shares, each made by
@@ -100,4 +109,13 @@ pub fn decisions()
 /// answers, the circuit, read with these answers, is the circuit in the direct reading.
 pub fn true_proofs()
     ensures { TrueProofsAreDirect }
+{}
+
+/// What the definitions give for Count, with its honest proof, verifier and share at the point 2; for a circuit
+/// with a call inside a call; for a public constant on half a share; and for a histogram of four buckets.
+pub fn examples()
+    ensures count { CountExample }
+    ensures cube { CubeExample }
+    ensures half { HalfExample }
+    ensures histogram { HistogramExample }
 {}

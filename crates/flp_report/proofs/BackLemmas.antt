@@ -1,5 +1,5 @@
 -- What is written as a batch is read as the same batch.
-use Rattle.std.proofs.Common.{◌≡◌, ℕ, ◌+◌, ◌*◌, ◌^◌, ◌<◌, ◌≤◌, List, [], ◌∷◌, ◌++◌, length, drop, Option, Some, None, true, nat_eq, refl, sym, ap, ◌∙◌, arith, append_assoc, append-nil, length-append, length-drop}
+use Rattle.std.proofs.Common.{◌≡◌, ℕ, ◌+◌, ◌*◌, ◌^◌, ◌<◌, ◌≤◌, List, [], ◌∷◌, ◌++◌, length, drop, Option, Some, None, true, nat_eq, refl, sym, ap, ◌∙◌, arith, append_assoc, append-nil, length-drop}
 use Rattle.std.specs.Prelude.{IfSome}
 use Rattle.std.specs.List.{All, concat, starts_with, flat_map}
 use Rattle.std.proofs.lemmas.Bool.{le-ltb, lt-leb}
@@ -13,7 +13,7 @@ use Rattle.flp_report.specs.Head.{number_at, party_fault, numbers_fault, IsStart
 use Rattle.flp_report.specs.Pieces.{pieces, fall_in}
 use Rattle.flp_report.specs.Batch.{batch_letters, header_of, large_fault, records_fault, fault_of, claims_of, whole_records, IsHead, IsFront}
 use Rattle.flp_report.specs.Layout.{head_numbers, head_bytes, IsWritable}
-use Rattle.flp_report.proofs.HeadLemmas.{ended-none, number_at-append}
+use Rattle.flp_report.proofs.HeadLemmas.{ended-none, number_at-append, length-text}
 use Rattle.flp_report.proofs.BatchLemmas.{IsHead-joined}
 use Rattle.flp_report.proofs.LawLemmas.{fault_of-records, whole_records-all, length-records, says}
 use Rattle.flp_report.proofs.PiecesLemmas.{pieces-append}
@@ -104,8 +104,28 @@ records_fault-none before whole rest same =
     rw (ended-none before whole rest reaches, le-ltb whole (before + length rest) within) refl
 
 -- what a file's head says, whatever follows
-header_of-more : (party : Option ℕ) (front rest : List ℕ) (h : Header) → IsHead party front h → header_of (front ++ rest) ≡ h
+pub header_of-more : (party : Option ℕ) (front rest : List ℕ) (h : Header) → IsHead party front h → header_of (front ++ rest) ≡ h
 header_of-more party front rest h head = header_of-append front rest (omega (arith, head.size)) (omega (arith, head.size)) ∙ sym head.same
+
+-- the old claims of a file, whatever follows them
+pub claims_of-more : (party : Option ℕ) (front claims rest : List ℕ) (h : Header) → IsHead party front h → length claims ≡ 16 * h.claims
+    → claims_of (front ++ (claims ++ rest)) ≡ pieces 16 h.claims claims
+claims_of-more party front claims rest h head size =
+    let s = says party front (claims ++ rest) h head in
+    let behind : drop (length front) (front ++ (claims ++ rest)) ≡ claims ++ rest = drop_at front (claims ++ rest) (length front) refl in
+    let fit : h.claims * 16 ≤ length claims = omega (arith, size) in
+    rw (s.text, s.claims, behind) (pieces-append 16 h.claims claims rest fit)
+
+-- the bytes in front of the old claims, by the text that they hold
+pub length-head : (party : Option ℕ) (front : List ℕ) (h : Header) → IsHead party front h → length front ≡ 32 + length h.text
+length-head party front h head = length-text 32 front h.text head.size (ap (λ (x : Header). x.text) head.same)
+
+-- what the calls gave in front of the records
+pub IsFront-read : (party : Option ℕ) (shape : Shape) (front claims : List ℕ) (h : Header) → IsHead party front h
+    → large_fault shape (32 + length h.text) h.claims h.reports ≡ None → length claims ≡ 16 * h.claims → fall_in (pieces 16 h.claims claims) ≡ None
+    → IsFront party shape (front ++ claims) h
+IsFront-read party shape front claims h head fits size rising =
+    record { head = front; claims = claims; is = refl; says = head; fits = rw (length-head party front h head) fits; size = size; rising = rising }
 
 -- a batch that is written is read again
 pub reads_back : (party : Option ℕ) (shape : Shape) (h : Header) (claims : List ℕ) (records : List (List ℕ))
@@ -117,18 +137,14 @@ pub reads_back : (party : Option ℕ) (shape : Shape) (h : Header) (claims : Lis
 reads_back party shape h claims records w fits size rising all count =
     let front = head_bytes h ++ claims in
     let head = IsHead-written party h w in
-    let long : length (head_bytes h) ≡ 32 + length h.text = length-append (start_bytes h) h.text in
-    let f : IsFront party shape front h = record { head = head_bytes h; claims = claims; is = refl; says = head; fits = rw long fits; size = size; rising = rising } in
+    let f : IsFront party shape front h = IsFront-read party shape (head_bytes h) claims h head fits size rising in
     let sizes = length-records (bytes_of shape) records all in
     let number : length (concat records) ≡ h.reports * bytes_of shape = sizes ∙ ap (λ (n : ℕ). n * bytes_of shape) count in
     let none : records_fault (length front) (length front + h.reports * bytes_of shape) (concat records) ≡ None = records_fault-none (length front) (length front + h.reports * bytes_of shape) (concat records) (ap (λ (n : ℕ). length front + n) number) in
     let bare : front ++ concat records ≡ front ++ (concat records ++ []) = ap (λ (b : List ℕ). front ++ b) (sym (append-nil (concat records))) in
-    let same : front ++ concat records ≡ head_bytes h ++ (claims ++ concat records) = append_assoc (head_bytes h) claims (concat records) in
-    let s = says party (head_bytes h) (claims ++ concat records) h head in
-    let behind : drop (length (head_bytes h)) (head_bytes h ++ (claims ++ concat records)) ≡ claims ++ concat records = drop_at (head_bytes h) (claims ++ concat records) (length (head_bytes h)) refl in
-    let fit : h.claims * 16 ≤ length claims = omega (arith, size) in (
+    let same : front ++ concat records ≡ head_bytes h ++ (claims ++ concat records) = append_assoc (head_bytes h) claims (concat records) in (
       fault_of-records party shape front (concat records) h f ∙ none,
       ap header_of same ∙ header_of-more party (head_bytes h) (claims ++ concat records) h head,
-      ap claims_of same ∙ (rw (s.text, s.claims, behind) (pieces-append 16 h.claims claims (concat records) fit)),
+      ap claims_of same ∙ claims_of-more party (head_bytes h) claims (concat records) h head size,
       ap (whole_records party shape) bare ∙ whole_records-all party shape front [] h records f all count,
     )

@@ -1,7 +1,7 @@
 -- The first fault of a head, from its parts, and what a file shares with its front.
-use Rattle.std.proofs.Common.{◌≡◌, ℕ, ◌+◌, ◌<◌, ◌≤◌, List, [], ◌∷◌, ◌++◌, length, drop, Option, Some, None, nat_eq, refl, sym, ap, ◌∙◌, arith, length-append, length-drop}
+use Rattle.std.proofs.Common.{◌≡◌, ℕ, ◌+◌, ◌<◌, ◌≤◌, List, [], ◌∷◌, ◌++◌, length, take, drop, Option, Some, None, nat_eq, refl, sym, ap, ◌∙◌, arith, length-append, length-drop}
 use Rattle.std.proofs.lemmas.Bool.{lt-ltb, le-ltb}
-use Rattle.std.proofs.lemmas.List.{take-append-le, drop-append-le, drop_at}
+use Rattle.std.proofs.lemmas.List.{take-append-le, drop-append-le, drop_at, length-take-le}
 use Rattle.std.specs.Cmp.Lexicographic.{pointwise}
 use Rattle.std.specs.List.{starts_with}
 use Rattle.byteorder.specs.Endian.{little_number}
@@ -9,7 +9,7 @@ use Rattle.byteorder.specs.Numbers.{little_from-append}
 use Rattle.flp_report.specs.declared.fault.BatchFault.{BatchFault}
 use Rattle.flp_report.specs.declared.fault.BatchFault.TheVariants.{Truncated}
 use Rattle.flp_report.specs.Fault.{first_of, ended}
-use Rattle.flp_report.specs.Head.{number_at, numbers_fault, start_fault, head_fault}
+use Rattle.flp_report.specs.Head.{number_at, numbers_fault, start_fault, text_end, stop_of, head_size, head_fault}
 use Rattle.flp_report.specs.Reads.{EndedShort}
 
 -- where the input goes on, it has not ended
@@ -88,3 +88,29 @@ head_fault-none letters base party front rest size long same none text =
     let behind : drop base (front ++ rest) ≡ rest = drop_at front rest base same in
     let reaches : base + number_at 20 front ≤ base + length rest = omega (arith, text) in
     rw (ended-none 0 base (front ++ rest) whole, numbers_fault-append letters party front rest size enough, none, number_at-append 20 front rest number, behind, ended-none base (base + number_at 20 front) rest reaches) refl
+
+-- a reading that stops behind the first bytes or behind the text stops no earlier than behind the first bytes
+stop_of-least : (base text : ℕ) (fault : Option BatchFault) → base ≤ text → base ≤ stop_of base text fault
+stop_of-least base text None fits = fits
+stop_of-least base text (Some fault) fits = omega arith
+
+pub head_size-least : (letters : List ℕ) (base : ℕ) (party : Option ℕ) (bytes : List ℕ) → base ≤ head_size letters base party bytes
+head_size-least letters base party bytes =
+    let behind : base ≤ text_end base bytes = omega arith in
+    stop_of-least base (text_end base bytes) (start_fault letters base party bytes) behind
+
+-- and behind the text where the first bytes have no fault
+pub head_size-text : (letters : List ℕ) (base : ℕ) (party : Option ℕ) (front rest : List ℕ) → length letters ≡ 8 → 24 ≤ base → length front ≡ base
+    → numbers_fault letters party front ≡ None → head_size letters base party (front ++ rest) ≡ base + number_at 20 front
+head_size-text letters base party front rest size long same none =
+    let whole : base ≤ 0 + length (front ++ rest) = omega (arith, length-append front rest, same) in
+    let enough : 24 ≤ length front = omega (arith, same) in
+    let number : 20 + 4 ≤ length front = omega (arith, same) in
+    rw (ended-none 0 base (front ++ rest) whole, numbers_fault-append letters party front rest size enough, none, number_at-append 20 front rest number) refl
+
+-- a text that is cut out of a head has the length that the head gives
+pub length-text : (base : ℕ) (front text : List ℕ) → length front ≡ text_end base front → text ≡ take (number_at 20 front) (drop base front) → length front ≡ base + length text
+length-text base front text size same =
+    let held : number_at 20 front ≤ length (drop base front) = omega (arith, size, length-drop base front) in
+    let long : length text ≡ number_at 20 front = ap length same ∙ length-take-le (number_at 20 front) (drop base front) held in
+    omega (arith, size, long)

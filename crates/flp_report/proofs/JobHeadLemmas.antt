@@ -1,11 +1,13 @@
 -- What a job file's head says, and its first fault, from its parts.
-use Rattle.std.proofs.Common.{◌≡◌, ℕ, ◌+◌, ◌≤◌, List, ◌++◌, length, take, drop, Some, None, refl, sym, ap, ◌∙◌, arith, length-append, length-drop}
-use Rattle.std.proofs.lemmas.List.{drop_at, take_all}
+use Rattle.std.proofs.Common.{◌≡◌, ℕ, ◌+◌, ◌*◌, ◌≤◌, List, ◌++◌, length, take, drop, Some, None, refl, sym, ap, ◌∙◌, arith, length-append, length-drop}
+use Rattle.std.proofs.lemmas.List.{drop_at, take_all, take-append-le, drop-append-le}
 use Rattle.flp_report.specs.declared.fault.BatchFault.{BatchFault}
 use Rattle.flp_report.specs.declared.job_shape.JobHeader.{JobHeader}
 use Rattle.flp_report.specs.declared.job_shape.JobShape.{JobShape}
 use Rattle.flp_report.specs.Head.{number_at, numbers_fault, text_end, head_fault}
-use Rattle.flp_report.specs.Job.{job_letters, job_large_fault, jobs_fault, job_fault_of, IsJobHead}
+use Rattle.flp_report.specs.Job.{job_letters, job_header_of, job_bytes_of, job_large_fault, jobs_fault, job_fault_of, jobs_of, IsJobHead}
+use Rattle.flp_report.specs.Pieces.{pieces}
+use Rattle.flp_report.proofs.PiecesLemmas.{pieces-append}
 use Rattle.flp_report.proofs.HeadLemmas.{ended-none, number_at-append, numbers_fault-append, head_fault-none}
 use Rattle.flp_report.proofs.LawLemmas.{first_of-here, first_of-next, first_of-last, first_of-second}
 
@@ -74,3 +76,23 @@ job_fault-jobs s front rest header head fits =
     let large : job_large_fault s (text_end 28 (front ++ rest)) (number_at 24 (front ++ rest)) ≡ job_large_fault s (length front) header.jobs = rw (says.text, says.jobs) refl in
     let same : jobs_fault s (text_end 28 (front ++ rest)) (number_at 24 (front ++ rest)) (drop (text_end 28 (front ++ rest)) (front ++ rest)) ≡ jobs_fault s (length front) header.jobs rest = rw (says.text, says.jobs, drop_at front rest (length front) refl) refl in
     first_of-next _ _ (job_head-more front rest header head) ∙ (first_of-next _ _ (large ∙ fits) ∙ (first_of-last _ ∙ same))
+
+-- what a file's head says, whatever follows
+pub job_header_of-more : (front rest : List ℕ) (header : JobHeader) → IsJobHead front header → job_header_of (front ++ rest) ≡ header
+job_header_of-more front rest header head =
+    let e : 12 + 4 ≤ length front = omega (arith, head.size) in
+    let f : 16 + 4 ≤ length front = omega (arith, head.size) in
+    let g : 20 + 4 ≤ length front = omega (arith, head.size) in
+    let h : 24 + 4 ≤ length front = omega (arith, head.size) in
+    let long : 28 ≤ length front = omega (arith, head.size) in
+    let held : number_at 20 front ≤ length (drop 28 front) = omega (arith, length-drop 28 front, head.size) in
+    let same : job_header_of (front ++ rest) ≡ job_header_of front = rw (number_at-append 12 front rest e, number_at-append 16 front rest f, number_at-append 20 front rest g, number_at-append 24 front rest h, drop-append-le 28 front rest long, take-append-le (number_at 20 front) (drop 28 front) rest held) refl in
+    same ∙ sym head.same
+
+-- and its jobs
+pub jobs_of-more : (s : JobShape) (front jobs rest : List ℕ) (header : JobHeader) → IsJobHead front header → length jobs ≡ header.jobs * job_bytes_of s
+    → jobs_of s (front ++ (jobs ++ rest)) ≡ pieces (job_bytes_of s) header.jobs jobs
+jobs_of-more s front jobs rest header head size =
+    let says = job_says front (jobs ++ rest) header head in
+    let fit : header.jobs * job_bytes_of s ≤ length jobs = omega (arith, size) in
+    rw (says.text, says.jobs, drop_at front (jobs ++ rest) (length front) refl) (pieces-append (job_bytes_of s) header.jobs jobs rest fit)

@@ -1,6 +1,6 @@
 -- The first fault and the whole records of a file, from what stands in front.
-use Rattle.std.proofs.Common.{◌≡◌, ℕ, suc, ◌+◌, ◌-◌, ◌*◌, ◌/◌, ◌≤◌, min, List, [], ◌∷◌, ◌++◌, length, take, drop, Option, Some, None, refl, sym, ap, ◌∙◌, arith, append_assoc, append-nil, length-append, length-drop}
-use Rattle.std.proofs.lemmas.Nat.{le-div}
+use Rattle.std.proofs.Common.{◌≡◌, ℕ, suc, ◌+◌, ◌-◌, ◌*◌, ◌/◌, ◌<◌, ◌≤◌, min, List, [], ◌∷◌, ◌++◌, length, take, drop, Option, Some, None, refl, sym, ap, ◌∙◌, arith, append_assoc, append-nil, length-append, length-drop}
+use Rattle.std.proofs.Math.Nat.{mul-add-div_right, div-eq_of_lt}
 use Rattle.std.proofs.lemmas.List.{take_at, drop_at}
 use Rattle.std.proofs.lemmas.List.Elements.{All-head, All-tail}
 use Rattle.std.specs.List.{concat, All}
@@ -174,30 +174,45 @@ whole_records-behind party shape front rest header f =
     let left : length (front ++ rest) - length front ≡ length rest = omega (arith, length-append front rest) in
     rw (front_fault-none party shape front rest header f, e.0, e.1, behind, left) refl
 
--- records that were read are the first whole ones
+-- how many records are whole, by those in front and the bytes behind these
+whole_count : (reports count size more : ℕ) → 0 < size → count ≤ reports → min reports ((count * size + more) / size) ≡ count + min (reports - count) (more / size)
+whole_count reports count size more some few =
+    let whole : (count * size + more) / size ≡ count + more / size = mul-add-div_right some count more in
+    rw whole (omega arith)
+
+-- records that were read are the first whole ones, and the others stand behind them
 pub whole_records-first : (party : Option ℕ) (shape : Shape) (front rest : List ℕ) (header : Header) (records : List (List ℕ))
     → IsFront party shape front header → All (λ r. length r ≡ bytes_of shape) records → length records ≤ header.reports
-    → (more : List (List ℕ)) × (whole_records party shape (front ++ (concat records ++ rest)) ≡ records ++ more)
+    → whole_records party shape (front ++ (concat records ++ rest)) ≡ records ++ pieces (bytes_of shape) (min (header.reports - length records) (length rest / bytes_of shape)) rest
 whole_records-first party shape front rest header records f all few =
     let size = bytes_of shape in
-    let room : length records * size ≤ length (concat records ++ rest) = omega (arith, length-append (concat records) rest, length-records size records all) in
-    let some : length records ≤ length (concat records ++ rest) / size = le-div (length records) (length (concat records ++ rest)) size (omega arith) room in
-    let count = min header.reports (length (concat records ++ rest) / size) in
-    let split : count ≡ length records + (count - length records) = omega (arith, some, few) in (
-      pieces size (count - length records) rest,
-      whole_records-behind party shape front (concat records ++ rest) header f
-          ∙ (ap (λ (k : ℕ). pieces size k (concat records ++ rest)) split ∙ pieces-concat size records (count - length records) rest all),
-    )
+    let more = min (header.reports - length records) (length rest / size) in
+    let bytes : length (concat records ++ rest) ≡ length records * size + length rest = length-append (concat records) rest ∙ ap (λ (n : ℕ). n + length rest) (length-records size records all) in
+    let some : 0 < size = omega arith in
+    let count : min header.reports (length (concat records ++ rest) / size) ≡ length records + more = ap (λ (n : ℕ). min header.reports (n / size)) bytes ∙ whole_count header.reports (length records) size (length rest) some few in
+    whole_records-behind party shape front (concat records ++ rest) header f
+    ∙ (ap (λ (k : ℕ). pieces size k (concat records ++ rest)) count ∙ pieces-concat size records more rest all)
+
+-- where none is behind them they are all
+whole_records-only : (party : Option ℕ) (shape : Shape) (front rest : List ℕ) (header : Header) (records : List (List ℕ))
+    → IsFront party shape front header → All (λ r. length r ≡ bytes_of shape) records → length records ≤ header.reports
+    → min (header.reports - length records) (length rest / bytes_of shape) ≡ 0
+    → whole_records party shape (front ++ (concat records ++ rest)) ≡ records
+whole_records-only party shape front rest header records f all few none =
+    whole_records-first party shape front rest header records f all few
+    ∙ (ap (λ (k : ℕ). records ++ pieces (bytes_of shape) k rest) none ∙ append-nil records)
 
 -- as many records as the head gives are all of them
 pub whole_records-all : (party : Option ℕ) (shape : Shape) (front rest : List ℕ) (header : Header) (records : List (List ℕ))
     → IsFront party shape front header → All (λ r. length r ≡ bytes_of shape) records → length records ≡ header.reports
     → whole_records party shape (front ++ (concat records ++ rest)) ≡ records
 whole_records-all party shape front rest header records f all same =
-    let size = bytes_of shape in
-    let room : length records * size ≤ length (concat records ++ rest) = omega (arith, length-append (concat records) rest, length-records size records all) in
-    let some : length records ≤ length (concat records ++ rest) / size = le-div (length records) (length (concat records ++ rest)) size (omega arith) room in
-    let count : min header.reports (length (concat records ++ rest) / size) ≡ length records + 0 = omega (arith, some, same) in
-    whole_records-behind party shape front (concat records ++ rest) header f
-    ∙ (ap (λ (k : ℕ). pieces size k (concat records ++ rest)) count
-    ∙ (pieces-concat size records 0 rest all ∙ append-nil records))
+    whole_records-only party shape front rest header records f all (omega (arith, same)) (omega (arith, same))
+
+-- so are those behind which fewer bytes are left than one has
+pub whole_records-short : (party : Option ℕ) (shape : Shape) (front rest : List ℕ) (header : Header) (records : List (List ℕ))
+    → IsFront party shape front header → All (λ r. length r ≡ bytes_of shape) records → length records ≤ header.reports → length rest < bytes_of shape
+    → whole_records party shape (front ++ (concat records ++ rest)) ≡ records
+whole_records-short party shape front rest header records f all few short =
+    let none : length rest / bytes_of shape ≡ 0 = div-eq_of_lt short in
+    whole_records-only party shape front rest header records f all few (omega (arith, none))

@@ -4,6 +4,7 @@ pub mod PlacesLemmas
 pub mod CountRecordsLemmas
 pub mod SegmentLemmas
 pub mod WordsLemmas
+pub mod WordPartsLemmas
 pub mod ReadsLemmas
 pub mod HeadLemmas
 pub mod PiecesLemmas
@@ -11,6 +12,7 @@ pub mod BatchLemmas
 pub mod LawLemmas
 pub mod WriteLemmas
 pub mod BackLemmas
+pub mod ReportLemmas
 pub mod JobLemmas
 pub mod JobHeadLemmas
 pub mod PartFaultLemmas

@@ -1,7 +1,10 @@
 -- Bytes cut into pieces, and the search for a nonce that is not above the one before.
-use Rattle.std.proofs.Common.{◌≡◌, ℕ, zero, suc, ◌+◌, ◌-◌, ◌*◌, ◌<◌, ◌≤◌, List, ◌∷◌, ◌++◌, length, Option, Some, None, true, false, take, drop, refl, sym, ap, ◌∙◌, arith, length-drop}
-use Rattle.std.proofs.lemmas.List.{drop-drop, take-append-le, drop-append-le}
-use Rattle.flp_report.specs.Pieces.{pieces, is_below, fall_after, fall_in}
+use Rattle.std.proofs.Common.{◌≡◌, ℕ, zero, suc, ◌+◌, ◌-◌, ◌*◌, ◌<◌, ◌≤◌, List, [], ◌∷◌, ◌++◌, length, Option, Some, None, true, false, take, drop, refl, sym, ap, ◌∙◌, arith, length-drop, take-append-drop}
+use Rattle.std.specs.Prelude.{slice_get}
+use Rattle.std.specs.List.{All, concat}
+use Rattle.std.proofs.lemmas.List.Elements.{All-nil, All-cons}
+use Rattle.std.proofs.lemmas.List.{drop-drop, take-append-le, drop-append-le, length-take-le}
+use Rattle.flp_report.specs.Pieces.{pieces, is_below, fall_after, fall_in, IsCut}
 
 -- the piece of this number
 abbrev pub piece : ℕ → ℕ → List ℕ → List ℕ
@@ -53,3 +56,45 @@ pieces-append size (suc n) front rest long =
     ap (λ (b : List ℕ). b ∷ pieces size n (drop size (front ++ rest))) (take-append-le size front rest first)
     ∙ (ap (λ (b : List ℕ). take size front ∷ pieces size n b) (drop-append-le size front rest first)
     ∙ ap (λ (l : List (List ℕ)). take size front ∷ l) (pieces-append size n (drop size front) rest more))
+
+-- the piece of each number
+pub slice_get-pieces : (size n k : ℕ) (bytes : List ℕ) → k < n → slice_get (pieces size n bytes) k ≡ Some (piece size k bytes)
+slice_get-pieces size zero k bytes below = absurd (omega arith)
+slice_get-pieces size (suc n) zero bytes below =
+    let start : 0 ≡ size * 0 = omega arith in
+    ap (λ (m : ℕ). Some (take size (drop m bytes))) start
+slice_get-pieces size (suc n) (suc k) bytes below =
+    let less : k < n = omega arith in
+    let places : size + size * k ≡ size * suc k = grind arith in
+    slice_get-pieces size n k (drop size bytes) less
+    ∙ ap (λ (b : List ℕ). Some (take size b)) (drop-drop (size * k) size bytes ∙ ap (λ (m : ℕ). drop m bytes) places)
+
+-- there are as many as are asked for
+length-pieces : (size n : ℕ) (bytes : List ℕ) → length (pieces size n bytes) ≡ n
+length-pieces size zero bytes = refl
+length-pieces size (suc n) bytes = let rest = length-pieces size n (drop size bytes) in omega (arith, rest)
+
+-- no bytes are no pieces
+none_left : (bytes : List ℕ) → length bytes ≡ 0 → [] ≡ bytes
+none_left [] none = refl
+none_left (b ∷ bytes) none = absurd (omega (arith, none))
+
+-- the pieces of bytes are these bytes, one after the other
+concat-pieces : (size n : ℕ) (bytes : List ℕ) → length bytes ≡ n * size → concat (pieces size n bytes) ≡ bytes
+concat-pieces size zero bytes whole = none_left bytes (omega (arith, whole))
+concat-pieces size (suc n) bytes whole =
+    let more : length (drop size bytes) ≡ n * size = omega (arith, whole, length-drop size bytes) in
+    ap (λ (b : List ℕ). take size bytes ++ b) (concat-pieces size n (drop size bytes) more) ∙ take-append-drop size bytes
+
+-- and each has the size
+sizes-pieces : (size n : ℕ) (bytes : List ℕ) → n * size ≤ length bytes → All (λ p. length p ≡ size) (pieces size n bytes)
+sizes-pieces size zero bytes long = All-nil (λ p. length p ≡ size)
+sizes-pieces size (suc n) bytes long =
+    let first : size ≤ length bytes = omega (arith, long) in
+    let more : n * size ≤ length (drop size bytes) = omega (arith, long, length-drop size bytes) in
+    All-cons (λ p. length p ≡ size) (take size bytes) (pieces size n (drop size bytes)) (length-take-le size bytes first) (sizes-pieces size n (drop size bytes) more)
+
+pub IsCut-pieces : (size n : ℕ) (bytes : List ℕ) → length bytes ≡ n * size → IsCut size n bytes (pieces size n bytes)
+IsCut-pieces size n bytes whole =
+    let long : n * size ≤ length bytes = omega (arith, whole) in
+    record { whole = whole; joined = concat-pieces size n bytes whole; number = length-pieces size n bytes; sizes = sizes-pieces size n bytes long }

@@ -1,8 +1,9 @@
 -- How many bytes several readings take together.
-use Rattle.std.proofs.Common.{ℕ, ◌+◌, ◌≤◌, List, ◌++◌, length, Option, arith, length-append}
+use Rattle.std.proofs.Common.{ℕ, ◌+◌, ◌≤◌, List, ◌++◌, length, Option, Some, None, arith, length-append}
 use Rattle.std.specs.Io.KnownBytes.{Consumes}
 use Rattle.std.proofs.KnownBytes.{Consumes-trans}
-use Rattle.flp_report.specs.Reads.{ConsumesAtMost}
+use Rattle.flp_report.specs.Reads.{ConsumesAtMost, ConsumesWithin}
+use Rattle.flp_report.proofs.KnownLemmas.{IfSome-consumed}
 
 -- after bytes that are named, some more
 pub ConsumesAtMost-after : (a b c : Option (List ℕ)) (bytes : List ℕ) (n limit : ℕ) → Consumes a b bytes → ConsumesAtMost n b c → length bytes + n ≤ limit → ConsumesAtMost limit a c
@@ -13,3 +14,15 @@ ConsumesAtMost-after a b c bytes n limit first some fits =
 -- a weaker limit
 pub ConsumesAtMost-more : (a b : Option (List ℕ)) (n limit : ℕ) → ConsumesAtMost n a b → n ≤ limit → ConsumesAtMost limit a b
 ConsumesAtMost-more a b n limit some fits = record { bytes = some.bytes; few = omega (arith, some.few, fits); gone = some.gone }
+
+-- a limit that all bytes give
+pub ConsumesWithin-all : (limit : List ℕ → ℕ) (old new : Option (List ℕ)) (n : ℕ) → ConsumesAtMost n old new → ((bytes : List ℕ) → n ≤ limit bytes) → ConsumesWithin limit old new
+ConsumesWithin-all limit None new n some fits = tt
+ConsumesWithin-all limit (Some bytes) new n some fits = ConsumesAtMost-more (Some bytes) new n (limit bytes) some (fits bytes)
+
+-- a limit that the bytes that were read first give
+pub ConsumesWithin-front : (limit : List ℕ → ℕ) (old mid new : Option (List ℕ)) (front : List ℕ) (n : ℕ) → Consumes old mid front → ConsumesAtMost n mid new
+    → ((rest : List ℕ) → length front + n ≤ limit (front ++ rest)) → ConsumesWithin limit old new
+ConsumesWithin-front limit old mid new front n first some fits =
+    IfSome-consumed (λ bytes. ConsumesAtMost (limit bytes) old new) old mid front first
+    (λ rest. ConsumesAtMost-after old mid new front n (limit (front ++ rest)) first some (fits rest))

@@ -1,11 +1,14 @@
--- A segment with one record of a Count report in it.
-use Rattle.std.proofs.Common.{◌≡◌, ℕ, ◌*◌, ◌≤◌, length, take, drop, refl, ap, ◌∙◌, arith}
+-- What a segment holds, by its records.
+use Rattle.std.proofs.Common.{◌≡◌, ℕ, ◌*◌, ◌<◌, ◌≤◌, List, ◌++◌, length, take, drop, Some, refl, sym, ap, ◌∙◌, arith, take-append-drop}
+use Rattle.std.specs.Prelude.{slice_get}
 use Rattle.std.proofs.Math.Nat.{mul-le-mul_right}
 use Rattle.std.proofs.lemmas.List.{length-take-le}
 use Rattle.flp_report.specs.declared.shape.Shape.{Shape}
 use Rattle.flp_report.specs.declared.segment.Segment.{Segment}
 use Rattle.flp_report.specs.Shape.{bytes_of, IsCountShape}
-use Rattle.flp_report.specs.Segment.{shape_in, used_in, held_in, record_in}
+use Rattle.flp_report.specs.Segment.{shape_in, used_in, held_in, record_in, records_in}
+use Rattle.flp_report.specs.Pieces.{pieces, IsCut}
+use Rattle.flp_report.proofs.PiecesLemmas.{pieces-append, slice_get-pieces, IsCut-pieces}
 
 -- a Count report has 120 bytes
 pub bytes_of-count : (s : Shape) → IsCountShape s → bytes_of s ≡ 120
@@ -19,10 +22,32 @@ record_in-only s used =
     let all : size ≡ s.used * size = rw used (omega arith) in
     ap (λ (n : ℕ). take size (drop n s.bytes.items)) start ∙ ap (λ (n : ℕ). take n s.bytes.items) all
 
--- a segment holds 120 bytes a report
-pub length-held_in : (s : Segment) → IsCountShape (shape_in s) → length (held_in s) ≡ s.used * 120
-length-held_in s shape =
+-- a segment holds the shape's bytes for each record
+length-held : (s : Segment) → length (held_in s) ≡ s.used * bytes_of s.shape
+length-held s =
     let size = bytes_of s.shape in
     let room = mul-le-mul_right size s.in_use in
     let inside : s.used * size ≤ length s.bytes.items = omega (arith, room, s.sized, s.bytes.ok) in
-    length-take-le (s.used * size) s.bytes.items inside ∙ ap (λ (n : ℕ). s.used * n) (bytes_of-count s.shape shape)
+    length-take-le (s.used * size) s.bytes.items inside
+
+-- 120 for each Count report
+pub length-held_in : (s : Segment) → IsCountShape (shape_in s) → length (held_in s) ≡ s.used * 120
+length-held_in s shape = length-held s ∙ ap (λ (n : ℕ). s.used * n) (bytes_of-count s.shape shape)
+
+-- what it holds are its records
+pub IsCut-held : (s : Segment) → IsCut (bytes_of s.shape) s.used (held_in s) (records_in s)
+IsCut-held s = IsCut-pieces (bytes_of s.shape) s.used (held_in s) (length-held s)
+
+-- the record of each number
+pub records_in-at : (s : Segment) (index : ℕ) → index < used_in s → slice_get (records_in s) index ≡ Some (record_in s index)
+records_in-at s index below =
+    let size = bytes_of s.shape in
+    let items = s.bytes.items in
+    let held = held_in s in
+    let fits : s.used * size ≤ length held = omega (arith, length-held s) in
+    let same : pieces size s.used (held ++ drop (s.used * size) items) ≡ pieces size s.used held = pieces-append size s.used held (drop (s.used * size) items) fits in
+    let all : pieces size s.used held ≡ pieces size s.used items = sym same ∙ ap (λ (b : List ℕ). pieces size s.used b) (take-append-drop (s.used * size) items) in
+    let place : size * index ≡ index * size = grind arith in
+    ap (λ (l : List (List ℕ)). slice_get l index) all
+    ∙ (slice_get-pieces size s.used index items below
+    ∙ ap (λ (n : ℕ). Some (take size (drop n items))) place)

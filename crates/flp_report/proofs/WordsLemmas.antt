@@ -14,7 +14,7 @@ length-words zero bytes = refl
 length-words (suc n) bytes = let rest = length-words n (drop 8 bytes) in omega arith
 
 -- 8 bytes on, and then 8 for each of k
-drop-word : (k : ℕ) (bytes : List ℕ) → drop (8 * k) (drop 8 bytes) ≡ drop (8 * suc k) bytes
+pub drop-word : (k : ℕ) (bytes : List ℕ) → drop (8 * k) (drop 8 bytes) ≡ drop (8 * suc k) bytes
 drop-word k bytes =
     let places : 8 + 8 * k ≡ 8 * suc k = omega arith in
     drop-drop (8 * k) 8 bytes ∙ ap (λ (n : ℕ). drop n bytes) places

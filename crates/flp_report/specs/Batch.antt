@@ -2,7 +2,7 @@
 use Rattle.std.specs.Prelude.{ℕ, ◌+◌, ◌-◌, ◌*◌, ◌/◌, ◌≡◌, ◌≤◌, ◌<◌, min, List, [], ◌∷◌, ◌++◌, Option, Some, None, IfSome, codes, nat_lt, length, take, drop}
 use Rattle.std.specs.Option.{option_map}
 use Rattle.flp_report.specs.declared.fault.BatchFault.{BatchFault}
-use Rattle.flp_report.specs.declared.fault.BatchFault.TheVariants.{TooLarge, ClaimsOrder, Trailing}
+use Rattle.flp_report.specs.declared.fault.BatchFault.TheVariants.{ClaimsOrder, TooLarge, Truncated, Trailing}
 use Rattle.flp_report.specs.declared.header.Header.{Header}
 use Rattle.flp_report.specs.declared.shape.Shape.{Shape}
 use Rattle.flp_report.specs.Shape.{bytes_of}
@@ -34,6 +34,12 @@ claims_fault before count rest =
     ended before (before + 16 * count) rest
     ∷ option_map ClaimsOrder (fall_in (pieces 16 count rest))
     ∷ [])
+
+-- a fault that these old claims can have, whatever their bytes
+abbrev pub IsClaimsFault : ℕ → ℕ → BatchFault → Type 0
+IsClaimsFault before count (Truncated have need) = (before ≤ have) × (have < need) × (need ≡ before + 16 * count)
+IsClaimsFault before count (ClaimsOrder number) = (1 ≤ number) × (number < count)
+IsClaimsFault before count fault = ⊥
 
 -- the first fault of the records, which stand behind the first `before` bytes of a file of this size
 abbrev pub records_fault : ℕ → ℕ → List ℕ → Option BatchFault

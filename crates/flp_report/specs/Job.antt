@@ -81,6 +81,10 @@ job_fault_of s bytes =
     ∷ jobs_fault s (text_end 28 bytes) (number_at 24 bytes) (drop (text_end 28 bytes) bytes)
     ∷ [])
 
+-- the jobs of a file without a fault
+abbrev pub jobs_of : JobShape → List ℕ → List (List ℕ)
+jobs_of s bytes = pieces (job_bytes_of s) (number_at 24 bytes) (drop (text_end 28 bytes) bytes)
+
 -- the bytes in front of the jobs of a file without a fault up to there, and what they say
 pub record IsJobHead (bytes : List ℕ) (header : JobHeader) : Type 0 where
   pub size : length bytes ≡ text_end 28 bytes

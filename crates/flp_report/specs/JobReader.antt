@@ -27,6 +27,10 @@ shares_given r = r.shares
 abbrev pub proofs_given : {S : Type 0} → JobReader S → ℕ
 proofs_given r = r.proofs
 
+-- they are those of before
+abbrev pub SameNumbers : {S : Type 0} → JobReader S → JobReader S → Type 0
+SameNumbers old new = (shares_given new ≡ shares_given old) × (proofs_given new ≡ proofs_given old)
+
 -- the jobs that are left to read
 abbrev pub jobs_left : {S : Type 0} → JobReader S → ℕ
 jobs_left r = r.left

@@ -12,6 +12,7 @@ pub mod Reads
 pub mod Nonces
 pub mod Reader
 pub mod Layout
+pub mod Report
 pub mod Job
 pub mod JobParts
 pub mod JobReader

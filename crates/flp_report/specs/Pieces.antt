@@ -1,5 +1,6 @@
 -- Bytes cut into pieces of one size, and the order of nonces.
-use Rattle.std.specs.Prelude.{ℕ, zero, suc, Bool, List, [], ◌∷◌, Option, Some, None, if◌then◌else◌, take, drop}
+use Rattle.std.specs.Prelude.{ℕ, ◌*◌, zero, suc, Bool, List, [], ◌∷◌, Option, Some, None, if◌then◌else◌, ◌≡◌, All, length, take, drop}
+use Rattle.std.specs.List.{concat}
 use Rattle.std.specs.Ordering.{is_lt, nat_cmp}
 use Rattle.std.specs.Cmp.Lexicographic.{slice_cmp}
 
@@ -7,6 +8,13 @@ use Rattle.std.specs.Cmp.Lexicographic.{slice_cmp}
 abbrev pub pieces : ℕ → ℕ → List ℕ → List (List ℕ)
 pieces size zero bytes = []
 pieces size (suc n) bytes = take size bytes ∷ pieces size n (drop size bytes)
+
+-- bytes are parts of one size, one after the other
+pub record IsCut (size count : ℕ) (bytes : List ℕ) (parts : List (List ℕ)) : Type 0 where
+  pub whole : length bytes ≡ count * size
+  pub joined : concat parts ≡ bytes
+  pub number : length parts ≡ count
+  pub sizes : All (λ part. length part ≡ size) parts
 
 -- a list of bytes stands in front of another
 abbrev pub is_below : List ℕ → List ℕ → Bool

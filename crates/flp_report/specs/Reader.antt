@@ -27,6 +27,10 @@ shares_given r = r.shares
 abbrev pub proofs_given : {S : Type 0} → BatchReader S → ℕ
 proofs_given r = r.proofs
 
+-- they are those of before
+abbrev pub SameNumbers : {S : Type 0} → BatchReader S → BatchReader S → Type 0
+SameNumbers old new = (shares_given new ≡ shares_given old) × (proofs_given new ≡ proofs_given old)
+
 -- the old claims that are left to read
 abbrev pub claims_left : {S : Type 0} → BatchReader S → ℕ
 claims_left r = r.claims

@@ -10,6 +10,10 @@ pub record ConsumesAtMost (limit : ℕ) (old new : Option (List ℕ)) : Type 0 w
   pub few : length bytes ≤ limit
   pub gone : Consumes old new bytes
 
+-- known bytes lose some of their front, and no more than as many as they themselves give
+abbrev pub ConsumesWithin : (List ℕ → ℕ) → Option (List ℕ) → Option (List ℕ) → Type 0
+ConsumesWithin limit old new = IfSome old (λ bytes. ConsumesAtMost (limit bytes) old new)
+
 -- the fault is that only `came` bytes, less than were wanted behind the first `before`, were left
 pub record EndedShort (left : Option (List ℕ)) (before wanted need : ℕ) (fault : BatchFault) : Type 0 where
   pub came : ℕ

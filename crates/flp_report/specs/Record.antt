@@ -2,7 +2,8 @@
 use Rattle.std.specs.Prelude.{ℕ, ◌+◌, ◌*◌, List, take, drop}
 use Rattle.flp_report.specs.declared.shape.Shape.{Shape}
 use Rattle.flp_report.specs.declared.record.Record.{Record}
-use Rattle.flp_report.specs.Shape.{part_of}
+use Rattle.flp_report.specs.Shape.{part_of, words_of}
+use Rattle.flp_report.specs.Words.{words}
 
 -- a record's bytes
 abbrev pub record_of : Record → List ℕ
@@ -16,13 +17,21 @@ shape_of r = r.shape
 abbrev pub nonce_in : List ℕ → List ℕ
 nonce_in bytes = take 16 bytes
 
+-- the words of a record, numbered from 0 behind the nonce
+abbrev pub words_in : Shape → List ℕ → List ℕ
+words_in s bytes = words (words_of s) (drop 16 bytes)
+
 -- the bytes of one share's part
 abbrev pub share_in : Shape → List ℕ → ℕ → List ℕ
 share_in s bytes share = take (8 * part_of s) (drop (16 + 8 * (share * part_of s)) bytes)
 
--- where the joint and query words of one proof begin
+-- the number of the first of one proof's joint and query words
+abbrev pub own_word : Shape → ℕ → ℕ
+own_word s proof = s.shares * part_of s + proof * (s.joint + s.query)
+
+-- where they begin
 abbrev pub own_start : Shape → ℕ → ℕ
-own_start s proof = 16 + 8 * (s.shares * part_of s + proof * (s.joint + s.query))
+own_start s proof = 16 + 8 * own_word s proof
 
 -- the bytes of one proof's joint words
 abbrev pub joint_in : Shape → List ℕ → ℕ → List ℕ

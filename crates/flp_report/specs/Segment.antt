@@ -3,6 +3,7 @@ use Rattle.std.specs.Prelude.{ℕ, ◌*◌, List, take, drop}
 use Rattle.flp_report.specs.declared.shape.Shape.{Shape}
 use Rattle.flp_report.specs.declared.segment.Segment.{Segment}
 use Rattle.flp_report.specs.Shape.{bytes_of}
+use Rattle.flp_report.specs.Pieces.{pieces}
 
 -- the shape that it was made for
 abbrev pub shape_in : Segment → Shape
@@ -23,3 +24,7 @@ held_in s = take (s.used * bytes_of s.shape) s.bytes.items
 -- the bytes of the record of this number
 abbrev pub record_in : Segment → ℕ → List ℕ
 record_in s index = take (bytes_of s.shape) (drop (index * bytes_of s.shape) s.bytes.items)
+
+-- the records that the last reading left in it
+abbrev pub records_in : Segment → List (List ℕ)
+records_in s = pieces (bytes_of s.shape) s.used (held_in s)

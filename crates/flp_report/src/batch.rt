@@ -4,7 +4,7 @@ ghost use Rattle.std.specs.Io.KnownBytes.{Consumes, IsAtEnd};
 ghost use Rattle.flp_io.specs.Faults.{Rose};
 ghost use Rattle.flp_io.specs.Reads.{ConsumesSome};
 ghost use Rattle.flp_report.specs.Fault.{IfBatch};
-ghost use Rattle.flp_report.specs.Reads.{ConsumesAtMost, EndedShort};
+ghost use Rattle.flp_report.specs.Reads.{ConsumesAtMost, ConsumesWithin, EndedShort};
 
 use crate::fault::{BatchFault, ReadFault};
 use crate::head::{number_at, read_head};
@@ -43,12 +43,12 @@ pub struct BatchReader<'a, S> {
 
 impl<'a, S: Source> BatchReader<'a, S> {
     ghost use Rattle.flp_report.specs.Shape.{bytes_of};
-    ghost use Rattle.flp_report.specs.Batch.{IsHead, IsInLimits, batch_letters, large_fault, claims_fault};
-    ghost use Rattle.flp_report.specs.Head.{head_fault};
+    ghost use Rattle.flp_report.specs.Batch.{IsHead, IsInLimits, batch_letters, large_fault, claims_fault, IsClaimsFault};
+    ghost use Rattle.flp_report.specs.Head.{head_fault, head_size, IsHeadFault};
     ghost use Rattle.flp_report.specs.Pieces.{fall_in};
     ghost use Rattle.flp_report.specs.Nonces.{nonce_bytes, nonce_count, nonces_in};
     ghost use Rattle.flp_report.specs.Segment.{shape_in, room_of, used_in, held_in};
-    ghost use Rattle.flp_report.specs.Reader.{source_of, loan_of, SameLoan, place_of, shares_given, proofs_given, claims_left, reports_left, shape_given, size_of_file, IsShaped};
+    ghost use Rattle.flp_report.specs.Reader.{source_of, loan_of, SameLoan, place_of, shares_given, proofs_given, SameNumbers, claims_left, reports_left, shape_given, size_of_file, IsShaped};
 
     /// A reader whose batch begins at the source's next byte. It reads nothing yet.
     pub fn new(source: &'a mut S) -> BatchReader<'a, S>
@@ -67,8 +67,8 @@ impl<'a, S: Source> BatchReader<'a, S> {
         }
     }
 
-    /// Reads what stands in front of the old claims: the head of 32 bytes and the circuit text. The
-    /// text's room grows as its bytes come.
+    /// Reads what stands in front of the old claims: the head of 32 bytes and, where these have no
+    /// fault, the circuit text. The text's room grows as its bytes come.
     ///
     /// An error is the first fault of the file up to the end of its text; or else
     /// [`ReadFault::Failed`] or [`ReadFault::Memory`]. Where a party is given, more shares than its
@@ -84,10 +84,11 @@ impl<'a, S: Source> BatchReader<'a, S> {
         ensures left { IfOk result (λ header. (claims_left self.new ≡ header.claims) × (reports_left self.new ≡ header.reports)) }
         ensures fault { IfErr result (λ fault. IfBatch fault (λ b. IfSome (S.left (source_of self.old))
             (λ bytes. head_fault batch_letters 32 party bytes ≡ Some b))) }
+        ensures kind { IfErr result (λ fault. IfBatch fault (IsHeadFault 32 party)) }
 
         // At every outcome.
         ensures moved { ConsumesSome (S.left (source_of self.old)) (S.left (source_of self.new)) }
-        ensures few { ConsumesAtMost 65568 (S.left (source_of self.old)) (S.left (source_of self.new)) }
+        ensures few { ConsumesWithin (head_size batch_letters 32 party) (S.left (source_of self.old)) (S.left (source_of self.new)) }
         ensures failed { result ≡ Err ReadFault.Failed → Rose (S.faults (source_of self.old)) (S.faults (source_of self.new)) }
         ensures later { S.faults (source_of self.old) ≤ S.faults (source_of self.new) }
     {
@@ -125,6 +126,7 @@ impl<'a, S: Source> BatchReader<'a, S> {
             × (large_fault shape (place_of self.old) (claims_left self.old) (reports_left self.old) ≡ Some b)) }
         ensures shape { OnOk result (shape_given self.new ≡ shape) }
         ensures shaped { OnOk result (IsShaped self.new) }
+        ensures numbers { OnOk result (SameNumbers self.old self.new) }
         ensures left { OnOk result ((claims_left self.new ≡ claims_left self.old) × (reports_left self.new ≡ reports_left self.old)) }
         ensures place { OnOk result (place_of self.new ≡ place_of self.old) }
     {
@@ -157,7 +159,9 @@ impl<'a, S: Source> BatchReader<'a, S> {
         ensures rising { IfOk result (λ claims. fall_in (nonces_in claims) ≡ None) }
         ensures fault { IfErr result (λ fault. IfBatch fault (λ b. IfSome (S.left (source_of self.old))
             (λ rest. claims_fault (place_of self.old) (claims_left self.old) rest ≡ Some b))) }
+        ensures kind { IfErr result (λ fault. IfBatch fault (IsClaimsFault (place_of self.old) (claims_left self.old))) }
         ensures shaped { OnOk result (IsShaped self.new) }
+        ensures numbers { OnOk result (SameNumbers self.old self.new) }
         ensures shape { OnOk result (shape_given self.new ≡ shape_given self.old) }
         ensures size { OnOk result (size_of_file self.new ≡ size_of_file self.old) }
         ensures left { OnOk result ((claims_left self.new ≡ 0) × (reports_left self.new ≡ reports_left self.old)) }
@@ -205,6 +209,7 @@ impl<'a, S: Source> BatchReader<'a, S> {
         ensures no_memory { result ≢ Err ReadFault.Memory }
         ensures none_held { OnErr result (used_in room.new ≡ 0) }
         ensures shaped { OnOk result (IsShaped self.new) }
+        ensures numbers { OnOk result (SameNumbers self.old self.new) }
         ensures shape { OnOk result (shape_given self.new ≡ shape_given self.old) }
         ensures size { OnOk result (size_of_file self.new ≡ size_of_file self.old) }
         ensures left { OnOk result ((claims_left self.new ≡ 0) × (reports_left self.new + count ≡ reports_left self.old)) }
@@ -244,6 +249,9 @@ impl<'a, S: Source> BatchReader<'a, S> {
         ensures same { SameLoan self.old self.new }
         ensures ended { OnOk result (IsAtEnd (S.left (source_of self.new))) }
         ensures none_read { OnOk result (Consumes (S.left (source_of self.old)) (S.left (source_of self.new)) []) }
+        ensures numbers { OnOk result (SameNumbers self.old self.new) }
+        ensures left { OnOk result ((claims_left self.new ≡ 0) × (reports_left self.new ≡ 0)) }
+        ensures place { OnOk result (place_of self.new ≡ place_of self.old) }
         ensures fault { OnErr result ((result ≡ Err ReadFault.Failed)
             ⊎ ((result ≡ Err (ReadFault.Batch BatchFault.Trailing)) × IfSome (S.left (source_of self.old)) (λ left. left ≢ []))) }
 

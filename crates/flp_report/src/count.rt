@@ -253,6 +253,8 @@ impl<'a, S: Source> CountReader<'a, S> {
         ensures same { SameLoan self.old self.new }
         ensures ended { OnOk result (IsAtEnd (S.left (source_of self.new))) }
         ensures none_read { OnOk result (Consumes (S.left (source_of self.old)) (S.left (source_of self.new)) []) }
+        ensures left { OnOk result (reports_left self.new ≡ 0) }
+        ensures given { OnOk result (reports_given self.new ≡ reports_given self.old) }
         ensures fault { OnErr result ((result ≡ Err CountFault.Failed)
             ⊎ ((result ≡ Err (CountFault.Batch CountBatchFault.Trailing)) × IfSome (S.left (source_of self.old)) (λ left. left ≢ []))) }
 

@@ -4,8 +4,8 @@ ghost use Rattle.std.specs.Io.KnownBytes.{Consumes};
 ghost use Rattle.flp_io.specs.Faults.{Rose};
 ghost use Rattle.flp_io.specs.Reads.{ConsumesSome};
 ghost use Rattle.flp_report.specs.Fault.{IfBatch, first_of};
-ghost use Rattle.flp_report.specs.Head.{number_at, numbers_fault, start_fault, head_fault, IsStart};
-ghost use Rattle.flp_report.specs.Reads.{ConsumesAtMost};
+ghost use Rattle.flp_report.specs.Head.{number_at, numbers_fault, start_fault, head_fault, head_size, IsStart, IsNumbersFault, IsHeadFault};
+ghost use Rattle.flp_report.specs.Reads.{ConsumesAtMost, ConsumesWithin};
 
 use crate::fault::{BatchFault, ReadFault};
 use crate::read::{read_growing, read_whole};
@@ -26,6 +26,7 @@ fn check_numbers(head: &[u8], letters: &[u8], party: Option<u32>) -> Result<(), 
     requires { 24 ≤ length head.now }
     ensures none { OnOk result (numbers_fault letters.now party head.now ≡ None) }
     ensures fault { IfErr result (λ fault. numbers_fault letters.now party head.now ≡ Some fault) }
+    ensures kind { IfErr result (IsNumbersFault party) }
     ensures numbers { OnOk result (IsStart party head.now) }
 {
     if !head.starts_with(letters) {
@@ -69,6 +70,7 @@ fn read_start<S: Source>(
     ensures numbers { OnOk result (IsStart party head.new) }
     ensures fault { IfErr result (λ fault. IfBatch fault (λ b. IfSome (S.left source.old)
         (λ bytes. start_fault letters.now (length head.old) party bytes ≡ Some b))) }
+    ensures kind { IfErr result (λ fault. IfBatch fault (IsHeadFault (length head.old) party)) }
     ensures no_memory { result ≢ Err ReadFault.Memory }
 
     // At every outcome.
@@ -101,10 +103,11 @@ pub(crate) fn read_head<S: Source>(
     ensures numbers { OnOk result (IsStart party head.new) }
     ensures fault { IfErr result (λ fault. IfBatch fault (λ b. IfSome (S.left source.old)
         (λ bytes. head_fault letters.now (length head.old) party bytes ≡ Some b))) }
+    ensures kind { IfErr result (λ fault. IfBatch fault (IsHeadFault (length head.old) party)) }
 
     // At every outcome.
     ensures moved { ConsumesSome (S.left source.old) (S.left source.new) }
-    ensures few { ConsumesAtMost 65568 (S.left source.old) (S.left source.new) }
+    ensures few { ConsumesWithin (head_size letters.now (length head.old) party) (S.left source.old) (S.left source.new) }
     ensures failed { result ≡ Err ReadFault.Failed → Rose (S.faults source.old) (S.faults source.new) }
     ensures later { S.faults source.old ≤ S.faults source.new }
 {

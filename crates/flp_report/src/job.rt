@@ -1,5 +1,5 @@
 //! The jobs of a job file, whose bytes are lent.
-ghost use Rattle.std.specs.Prelude.{◌≡◌, ◌+◌, ◌*◌, ◌<◌, ◌≤◌, length, take};
+ghost use Rattle.std.specs.Prelude.{◌≡◌, ◌+◌, ◌*◌, ◌<◌, ◌≤◌, length, take, slice_get, Some};
 ghost use Rattle.flp_report.specs.Job.{job_bytes_of};
 ghost use Rattle.flp_report.specs.declared.shape.TheConstants.{RECORD_LIMIT};
 
@@ -127,8 +127,7 @@ pub struct Jobs {
 
 impl Jobs {
     ghost use Rattle.flp_report.specs.Job.{word_fault};
-    ghost use Rattle.flp_report.specs.Pieces.{pieces};
-    ghost use Rattle.flp_report.specs.JobParts.{job_of, job_shape_of, jobs_shape, jobs_count, jobs_bytes, job_in};
+    ghost use Rattle.flp_report.specs.JobParts.{job_of, job_shape_of, jobs_shape, jobs_count, jobs_bytes, job_in, jobs_in};
     ghost use Rattle.flp_report.specs.JobWords.{first_word};
 
     /// The jobs of this shape in these bytes.
@@ -150,6 +149,7 @@ impl Jobs {
     pub fn job_at(&self, index: u32) -> Job<'_>
         requires { index < jobs_count self.now }
         ensures bytes { job_of result ≡ job_in self.now index }
+        ensures numbered { slice_get (jobs_in self.now) index ≡ Some (job_of result) }
         ensures shape { job_shape_of result ≡ jobs_shape self.now }
     {
         let size = self.shape.bytes() as usize;
@@ -162,7 +162,7 @@ impl Jobs {
 
     /// The first job with a word that must be below the modulus and is not, and its first such word.
     pub(crate) fn bad_word(&self) -> Option<(u32, u32)>
-        ensures { first_word result ≡ word_fault (jobs_shape self.now) 0 (pieces (job_bytes_of (jobs_shape self.now)) (jobs_count self.now) (jobs_bytes self.now)) }
+        ensures { first_word result ≡ word_fault (jobs_shape self.now) 0 (jobs_in self.now) }
     {
         for place in 0..self.count {
             match self.job_at(place).bad_word() {

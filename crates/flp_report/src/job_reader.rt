@@ -4,7 +4,7 @@ ghost use Rattle.std.specs.Io.KnownBytes.{Consumes, IsAtEnd};
 ghost use Rattle.flp_io.specs.Faults.{Rose};
 ghost use Rattle.flp_io.specs.Reads.{ConsumesSome};
 ghost use Rattle.flp_report.specs.Fault.{IfBatch};
-ghost use Rattle.flp_report.specs.Reads.{ConsumesAtMost, EndedShort};
+ghost use Rattle.flp_report.specs.Reads.{ConsumesAtMost, ConsumesWithin, EndedShort};
 
 use crate::fault::{BatchFault, ReadFault};
 use crate::head::{number_at, read_head};
@@ -43,10 +43,9 @@ pub struct JobReader<'a, S> {
 
 impl<'a, S: Source> JobReader<'a, S> {
     ghost use Rattle.flp_report.specs.Job.{IsJobHead, IsJobInLimits, job_letters, job_large_fault, job_bytes_of, word_fault};
-    ghost use Rattle.flp_report.specs.Head.{head_fault};
-    ghost use Rattle.flp_report.specs.Pieces.{pieces};
-    ghost use Rattle.flp_report.specs.JobParts.{jobs_shape, jobs_count, jobs_bytes};
-    ghost use Rattle.flp_report.specs.JobReader.{source_of, loan_of, SameLoan, place_of, shares_given, proofs_given, jobs_left, shape_given, IsShaped};
+    ghost use Rattle.flp_report.specs.Head.{head_fault, head_size, IsHeadFault};
+    ghost use Rattle.flp_report.specs.JobParts.{jobs_shape, jobs_count, jobs_bytes, jobs_in};
+    ghost use Rattle.flp_report.specs.JobReader.{source_of, loan_of, SameLoan, place_of, shares_given, proofs_given, SameNumbers, jobs_left, shape_given, IsShaped};
 
     /// A reader whose file begins at the source's next byte. It reads nothing yet.
     pub fn new(source: &'a mut S) -> JobReader<'a, S>
@@ -64,8 +63,8 @@ impl<'a, S: Source> JobReader<'a, S> {
         }
     }
 
-    /// Reads what stands in front of the jobs: the head of 28 bytes and the circuit text. The text's
-    /// room grows as its bytes come.
+    /// Reads what stands in front of the jobs: the head of 28 bytes and, where these have no fault,
+    /// the circuit text. The text's room grows as its bytes come.
     ///
     /// An error is the first fault of the file up to the end of its text; or else
     /// [`ReadFault::Failed`] or [`ReadFault::Memory`].
@@ -80,10 +79,11 @@ impl<'a, S: Source> JobReader<'a, S> {
         ensures left { IfOk result (λ header. jobs_left self.new ≡ header.jobs) }
         ensures fault { IfErr result (λ fault. IfBatch fault (λ b. IfSome (S.left (source_of self.old))
             (λ bytes. head_fault job_letters 28 None bytes ≡ Some b))) }
+        ensures kind { IfErr result (λ fault. IfBatch fault (IsHeadFault 28 None)) }
 
         // At every outcome.
         ensures moved { ConsumesSome (S.left (source_of self.old)) (S.left (source_of self.new)) }
-        ensures few { ConsumesAtMost 65568 (S.left (source_of self.old)) (S.left (source_of self.new)) }
+        ensures few { ConsumesWithin (head_size job_letters 28 None) (S.left (source_of self.old)) (S.left (source_of self.new)) }
         ensures failed { result ≡ Err ReadFault.Failed → Rose (S.faults (source_of self.old)) (S.faults (source_of self.new)) }
         ensures later { S.faults (source_of self.old) ≤ S.faults (source_of self.new) }
     {
@@ -120,6 +120,7 @@ impl<'a, S: Source> JobReader<'a, S> {
             × (job_large_fault shape (place_of self.old) (jobs_left self.old) ≡ Some b)) }
         ensures shape { OnOk result (shape_given self.new ≡ shape) }
         ensures shaped { OnOk result (IsShaped self.new) }
+        ensures numbers { OnOk result (SameNumbers self.old self.new) }
         ensures left { OnOk result (jobs_left self.new ≡ jobs_left self.old) }
         ensures place { OnOk result (place_of self.new ≡ place_of self.old) }
     {
@@ -153,6 +154,7 @@ impl<'a, S: Source> JobReader<'a, S> {
         ensures bytes { IfOk result (λ jobs. Consumes (S.left (source_of self.old)) (S.left (source_of self.new)) (jobs_bytes jobs)) }
         ensures count { IfOk result (λ jobs. jobs_count jobs ≡ jobs_left self.old) }
         ensures shape { IfOk result (λ jobs. (jobs_shape jobs ≡ shape_given self.old) × (shape_given self.new ≡ shape_given self.old)) }
+        ensures numbers { OnOk result (SameNumbers self.old self.new) }
         ensures left { OnOk result (jobs_left self.new ≡ 0) }
         ensures place { OnOk result (place_of self.new ≡ place_of self.old + jobs_left self.old * job_bytes_of (shape_given self.old)) }
         ensures fault { IfErr result (λ fault. IfBatch fault
@@ -188,11 +190,14 @@ impl<'a, S: Source> JobReader<'a, S> {
         ensures same { SameLoan self.old self.new }
         ensures ended { OnOk result (IsAtEnd (S.left (source_of self.new))) }
         ensures none_read { OnOk result (Consumes (S.left (source_of self.old)) (S.left (source_of self.new)) []) }
-        ensures words { OnOk result (word_fault (jobs_shape jobs.now) 0 (pieces (job_bytes_of (jobs_shape jobs.now)) (jobs_count jobs.now) (jobs_bytes jobs.now)) ≡ None) }
+        ensures numbers { OnOk result (SameNumbers self.old self.new) }
+        ensures left { OnOk result (jobs_left self.new ≡ 0) }
+        ensures place { OnOk result (place_of self.new ≡ place_of self.old) }
+        ensures words { OnOk result (word_fault (jobs_shape jobs.now) 0 (jobs_in jobs.now) ≡ None) }
         ensures fault { OnErr result ((result ≡ Err ReadFault.Failed)
             ⊎ ((result ≡ Err (ReadFault.Batch BatchFault.Trailing)) × IfSome (S.left (source_of self.old)) (λ left. left ≢ []))
             ⊎ ((b : BatchFault) × (result ≡ Err (ReadFault.Batch b)) × IsAtEnd (S.left (source_of self.old))
-            × (word_fault (jobs_shape jobs.now) 0 (pieces (job_bytes_of (jobs_shape jobs.now)) (jobs_count jobs.now) (jobs_bytes jobs.now)) ≡ Some b))) }
+            × (word_fault (jobs_shape jobs.now) 0 (jobs_in jobs.now) ≡ Some b))) }
 
         // At every outcome.
         ensures moved { ConsumesSome (S.left (source_of self.old)) (S.left (source_of self.new)) }

@@ -1,5 +1,5 @@
 //! What the answers of a reader's calls, one after the other, say of a whole file.
-ghost use Rattle.std.specs.Prelude.{◌≡◌, ◌+◌, ◌*◌, ◌≤◌, ◌<◌, ◌++◌, ℕ, List, Option, Some, None, length};
+ghost use Rattle.std.specs.Prelude.{◌≡◌, ◌+◌, ◌-◌, ◌*◌, ◌/◌, min, ◌≤◌, ◌<◌, ◌++◌, ℕ, List, Option, Some, None, map, length, take, drop};
 ghost use Rattle.std.specs.List.{All, concat};
 ghost use Rattle.flp_report.specs.declared.fault.BatchFault.{BatchFault};
 ghost use Rattle.flp_report.specs.declared.fault.BatchFault.TheVariants.{Trailing};
@@ -7,13 +7,22 @@ ghost use Rattle.flp_report.specs.declared.header.Header.{Header};
 ghost use Rattle.flp_report.specs.declared.shape.Shape.{Shape};
 ghost use Rattle.flp_report.specs.declared.job_shape.JobHeader.{JobHeader};
 ghost use Rattle.flp_report.specs.declared.job_shape.JobShape.{JobShape};
-ghost use Rattle.flp_report.specs.Shape.{bytes_of};
-ghost use Rattle.flp_report.specs.Job.{job_letters, job_bytes_of, job_large_fault, jobs_fault, word_fault, job_fault_of, IsJobHead};
+ghost use Rattle.flp_report.specs.Shape.{part_of, bytes_of};
+ghost use Rattle.flp_report.specs.Job.{job_letters, job_part_of, job_bytes_of, job_large_fault, jobs_fault, word_fault, job_fault_of, job_header_of, jobs_of, IsJobHead};
 ghost use Rattle.flp_report.specs.Head.{head_fault};
 ghost use Rattle.flp_report.specs.Reads.{EndedShort};
-ghost use Rattle.flp_report.specs.Pieces.{pieces, fall_in};
-ghost use Rattle.flp_report.specs.Batch.{batch_letters, large_fault, claims_fault, records_fault, fault_of, claims_of, header_of, whole_records, IsHead, IsFront};
+ghost use Rattle.flp_report.specs.declared.segment.Segment.{Segment};
+ghost use Rattle.flp_report.specs.declared.job.Jobs.{Jobs};
+ghost use Rattle.flp_report.specs.declared.nonces.Nonces.{Nonces};
+ghost use Rattle.flp_report.specs.Segment.{shape_in, used_in, held_in, records_in};
+ghost use Rattle.flp_report.specs.JobParts.{jobs_shape, jobs_count, jobs_bytes, jobs_in, job_words_in, input_in, parts_in, seeds_word, seeds_in, job_own_word, job_joint_in, job_query_in};
+ghost use Rattle.flp_report.specs.Record.{words_in, share_in, own_word, joint_in, query_in};
+ghost use Rattle.flp_report.specs.Words.{words};
+ghost use Rattle.flp_report.specs.Nonces.{nonce_count, nonce_bytes, nonces_in};
+ghost use Rattle.flp_report.specs.Pieces.{pieces, fall_in, IsCut};
+ghost use Rattle.flp_report.specs.Batch.{batch_letters, large_fault, claims_fault, records_fault, fault_of, header_of, claims_of, whole_records, IsHead, IsFront};
 ghost use Rattle.flp_report.specs.Layout.{head_bytes, IsWritable};
+ghost use Rattle.flp_report.specs.Report.{Report, IsReport, record_written, IsBatch};
 
 /// The first fault of a file is what the first call that has one answers: `head`, `shape`,
 /// `claims`, and then `segment` or `end`; and a file is a batch where none has one.
@@ -42,27 +51,64 @@ pub fn record_faults()
     ensures none { (before whole : ℕ) (rest : List ℕ) → before + length rest ≡ whole → records_fault before whole rest ≡ None }
 {}
 
-/// The records that were read stand first among the whole records of a file, and are all of them
-/// where as many were read as the head gives.
+/// What `head` and `claims` gave is what the whole file says: its header and its old claims. With
+/// what `shape` answered they are all that stands in front of the records.
+pub fn read_front()
+    ensures size { (party : Option ℕ) (front : List ℕ) (header : Header)
+        → IsHead party front header → length front ≡ 32 + length header.text }
+    ensures header { (party : Option ℕ) (front rest : List ℕ) (header : Header)
+        → IsHead party front header → header_of (front ++ rest) ≡ header }
+    ensures whole { (party : Option ℕ) (shape : Shape) (front claims : List ℕ) (header : Header)
+        → IsHead party front header → large_fault shape (32 + length header.text) header.claims header.reports ≡ None
+        → length claims ≡ 16 * header.claims → fall_in (pieces 16 header.claims claims) ≡ None
+        → IsFront party shape (front ++ claims) header }
+    ensures claims { (party : Option ℕ) (front claims rest : List ℕ) (header : Header)
+        → IsHead party front header → length claims ≡ 16 * header.claims
+        → claims_of (front ++ (claims ++ rest)) ≡ pieces 16 header.claims claims }
+{}
+
+/// The records that were read stand first among the whole records of a file. They are all of them
+/// where as many were read as the head gives, and where fewer bytes are left than a record has.
 pub fn read_records()
     ensures first { (party : Option ℕ) (shape : Shape) (front rest : List ℕ) (header : Header) (records : List (List ℕ))
         → IsFront party shape front header → All (λ r. length r ≡ bytes_of shape) records → length records ≤ header.reports
-        → (more : List (List ℕ)) × (whole_records party shape (front ++ (concat records ++ rest)) ≡ records ++ more) }
+        → whole_records party shape (front ++ (concat records ++ rest))
+        ≡ records ++ pieces (bytes_of shape) (min (header.reports - length records) (length rest / bytes_of shape)) rest }
     ensures all { (party : Option ℕ) (shape : Shape) (front rest : List ℕ) (header : Header) (records : List (List ℕ))
         → IsFront party shape front header → All (λ r. length r ≡ bytes_of shape) records → length records ≡ header.reports
         → whole_records party shape (front ++ (concat records ++ rest)) ≡ records }
+    ensures short { (party : Option ℕ) (shape : Shape) (front rest : List ℕ) (header : Header) (records : List (List ℕ))
+        → IsFront party shape front header → All (λ r. length r ≡ bytes_of shape) records → length records ≤ header.reports
+        → length rest < bytes_of shape
+        → whole_records party shape (front ++ (concat records ++ rest)) ≡ records }
+{}
+
+/// What a segment, jobs and nonces hold is cut into records, jobs and nonces without a gap.
+pub fn held_parts()
+    ensures records { (s : Segment) → IsCut (bytes_of (shape_in s)) (used_in s) (held_in s) (records_in s) }
+    ensures jobs { (j : Jobs) → IsCut (job_bytes_of (jobs_shape j)) (jobs_count j) (jobs_bytes j) (jobs_in j) }
+    ensures nonces { (n : Nonces) → IsCut 16 (nonce_count n) (nonce_bytes n) (nonces_in n) }
+{}
+
+/// The words of each part of a record are the record's words at the part's place.
+pub fn record_parts()
+    ensures share { (s : Shape) (bytes : List ℕ) (share : ℕ) → share < s.shares
+        → words (part_of s) (share_in s bytes share) ≡ take (part_of s) (drop (share * part_of s) (words_in s bytes)) }
+    ensures joint { (s : Shape) (bytes : List ℕ) (proof : ℕ) → proof < s.proofs
+        → words s.joint (joint_in s bytes proof) ≡ take s.joint (drop (own_word s proof) (words_in s bytes)) }
+    ensures query { (s : Shape) (bytes : List ℕ) (proof : ℕ) → proof < s.proofs
+        → words s.query (query_in s bytes proof) ≡ take s.query (drop (own_word s proof + s.joint) (words_in s bytes)) }
 {}
 
 /// A batch that is written within the limits is read again as the same batch: without a fault, with
-/// its header, its old claims and its records.
+/// its header, its old claims, and the nonce and the words of each report.
 pub fn reads_back()
-    ensures { (party : Option ℕ) (shape : Shape) (header : Header) (claims : List ℕ) (records : List (List ℕ))
+    ensures { (party : Option ℕ) (shape : Shape) (header : Header) (claims : List ℕ) (reports : List Report)
         → IsWritable party header → large_fault shape (32 + length header.text) header.claims header.reports ≡ None
         → length claims ≡ 16 * header.claims → fall_in (pieces 16 header.claims claims) ≡ None
-        → All (λ r. length r ≡ bytes_of shape) records → length records ≡ header.reports
-        → let bytes = (head_bytes header ++ claims) ++ concat records in
-        (fault_of party shape bytes ≡ None) × (header_of bytes ≡ header)
-        × (claims_of bytes ≡ pieces 16 header.claims claims) × (whole_records party shape bytes ≡ records) }
+        → All (IsReport shape) reports → length reports ≡ header.reports
+        → let bytes = (head_bytes header ++ claims) ++ concat (map record_written reports) in
+        IsBatch party shape bytes header (pieces 16 header.claims claims) reports }
 {}
 
 /// The first fault of a job file is what the first call that has one answers: `head`, `shape`, and
@@ -85,4 +131,29 @@ pub fn job_faults()
         → jobs * job_bytes_of s < length rest → jobs_fault s before jobs rest ≡ Some Trailing }
     ensures words { (s : JobShape) (before jobs : ℕ) (rest : List ℕ)
         → length rest ≡ jobs * job_bytes_of s → jobs_fault s before jobs rest ≡ word_fault s 0 (pieces (job_bytes_of s) jobs rest) }
+{}
+
+/// What `head` and `jobs` gave is what the whole file says: its header and its jobs.
+pub fn read_jobs()
+    ensures size { (front : List ℕ) (header : JobHeader)
+        → IsJobHead front header → length front ≡ 28 + length header.text }
+    ensures header { (front rest : List ℕ) (header : JobHeader)
+        → IsJobHead front header → job_header_of (front ++ rest) ≡ header }
+    ensures jobs { (s : JobShape) (front jobs rest : List ℕ) (header : JobHeader)
+        → IsJobHead front header → length jobs ≡ header.jobs * job_bytes_of s
+        → jobs_of s (front ++ (jobs ++ rest)) ≡ pieces (job_bytes_of s) header.jobs jobs }
+{}
+
+/// The words of each part of a job are the job's words at the part's place.
+pub fn job_parts()
+    ensures input { (s : JobShape) (bytes : List ℕ)
+        → words s.input (input_in s bytes) ≡ take s.input (job_words_in s bytes) }
+    ensures parts { (s : JobShape) (bytes : List ℕ)
+        → words ((s.shares - 1) * job_part_of s) (parts_in s bytes) ≡ take ((s.shares - 1) * job_part_of s) (drop s.input (job_words_in s bytes)) }
+    ensures seeds { (s : JobShape) (bytes : List ℕ) (proof : ℕ) → proof < s.proofs
+        → words s.prove (seeds_in s bytes proof) ≡ take s.prove (drop (seeds_word s proof) (job_words_in s bytes)) }
+    ensures joint { (s : JobShape) (bytes : List ℕ) (proof : ℕ) → proof < s.proofs
+        → words s.joint (job_joint_in s bytes proof) ≡ take s.joint (drop (job_own_word s proof) (job_words_in s bytes)) }
+    ensures query { (s : JobShape) (bytes : List ℕ) (proof : ℕ) → proof < s.proofs
+        → words s.query (job_query_in s bytes proof) ≡ take s.query (drop (job_own_word s proof + s.joint) (job_words_in s bytes)) }
 {}

@@ -19,7 +19,7 @@
 //! | write a batch to a [`flp_io::Sink`] | [`write_head`], [`write_claims`], then [`write_record`] for each report |
 //! | read a job file | [`JobReader`]: `head`, `shape`, `jobs`, `end` |
 //! | look at one job | [`Job`], which [`Jobs::job_at`] lends; [`load_numbers`] for its input |
-//! | know what the calls, one after the other, say of a whole file | [`first_faults`], [`record_faults`], [`read_records`], [`reads_back`], [`first_job_faults`], [`job_faults`] |
+//! | know what the calls, one after the other, say of a whole file | [`first_faults`], [`record_faults`], [`read_front`], [`read_records`], [`held_parts`], [`record_parts`], [`reads_back`], [`first_job_faults`], [`job_faults`], [`read_jobs`], [`job_parts`] |
 //!
 //! [`CountReader`] reads batches of Count reports alone: two shares, one proof, the text
 //! `use count;` and no old claims. Every other head or text is [`CountFault::NotBuilt`] to it. It
@@ -60,7 +60,8 @@ pub use job::{Job, Jobs};
 pub use job_reader::JobReader;
 pub use job_shape::{JobHeader, JobShape};
 pub use laws::{
-    first_faults, first_job_faults, job_faults, read_records, reads_back, record_faults,
+    first_faults, first_job_faults, held_parts, job_faults, job_parts, read_front, read_jobs,
+    read_records, reads_back, record_faults, record_parts,
 };
 pub use nonces::Nonces;
 pub use record::{Record, load, load_numbers};

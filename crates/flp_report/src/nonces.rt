@@ -1,5 +1,5 @@
 //! The nonces of reports that were counted before.
-ghost use Rattle.std.specs.Prelude.{◌≡◌, ◌+◌, ◌*◌, ◌<◌, ◌≤◌, length, take, drop, nat_eq};
+ghost use Rattle.std.specs.Prelude.{◌≡◌, ◌+◌, ◌*◌, ◌<◌, ◌≤◌, length, IfSome, take, drop, nat_eq, slice_get, Some};
 
 /// A list of nonces of 16 bytes each, one after the other.
 #[derive(Debug, Drop)]
@@ -39,7 +39,8 @@ impl Nonces {
     /// The 16 bytes of the nonce of this number, from 0.
     pub fn at(&self, index: u32) -> &[u8]
         requires { index < nonce_count self.now }
-        ensures { result.now ≡ take 16 (drop (16 * index) (nonce_bytes self.now)) }
+        ensures bytes { result.now ≡ take 16 (drop (16 * index) (nonce_bytes self.now)) }
+        ensures numbered { slice_get (nonces_in self.now) index ≡ Some result.now }
     {
         let start = 16 * index as usize;
         &self.bytes[start..start + 16]
@@ -54,7 +55,8 @@ impl Nonces {
 
     /// The number of the first nonce that is not above the one before.
     pub(crate) fn first_fall(&self) -> Option<u32>
-        ensures { result ≡ fall_in (nonces_in self.now) }
+        ensures first { result ≡ fall_in (nonces_in self.now) }
+        ensures place { IfSome result (λ number. (1 ≤ number) × (number < nonce_count self.now)) }
     {
         for index in 1..self.count {
             if !self.at(index - 1).cmp(&self.at(index)).is_lt() {

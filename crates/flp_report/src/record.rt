@@ -24,8 +24,7 @@ pub struct Record<'a> {
 }
 
 impl<'a> Record<'a> {
-    ghost use Rattle.flp_report.specs.Shape.{words_of};
-    ghost use Rattle.flp_report.specs.Record.{record_of, shape_of, nonce_in, share_in, own_start, joint_in, query_in};
+    ghost use Rattle.flp_report.specs.Record.{record_of, shape_of, nonce_in, words_in, share_in, own_start, joint_in, query_in};
 
     /// The record of these bytes, as many as the shape says.
     pub(crate) fn new(shape: Shape, bytes: &'a [u8]) -> Record<'a>
@@ -87,7 +86,7 @@ impl<'a> Record<'a> {
     /// The number of the first word, from 0 after the nonce, that is not below the modulus; `None`
     /// where all words are words of the field.
     pub fn bad_word(&self) -> Option<u32>
-        ensures { result ≡ bad_word_in (words (words_of (shape_of self.now)) (drop 16 (record_of self.now))) }
+        ensures { result ≡ bad_word_in (words_in (shape_of self.now) (record_of self.now)) }
     {
         let words = &self.bytes[16..];
         let count = self.shape.words() as u32;

@@ -1,5 +1,5 @@
 //! Room for records, made once and filled again and again.
-ghost use Rattle.std.specs.Prelude.{◌≡◌, ◌*◌, ◌+◌, ◌<◌, ◌≤◌, IfOk, vec_len};
+ghost use Rattle.std.specs.Prelude.{◌≡◌, ◌*◌, ◌+◌, ◌<◌, ◌≤◌, IfOk, Some, slice_get, vec_len};
 ghost use Rattle.flp_report.specs.Shape.{bytes_of};
 ghost use Rattle.flp_report.specs.declared.shape.TheConstants.{RECORD_LIMIT};
 
@@ -25,7 +25,7 @@ pub struct Segment {
 
 impl Segment {
     ghost use Rattle.flp_report.specs.Record.{record_of, shape_of};
-    ghost use Rattle.flp_report.specs.Segment.{room_of, used_in, shape_in, record_in};
+    ghost use Rattle.flp_report.specs.Segment.{room_of, used_in, shape_in, record_in, records_in};
 
     /// Room for `count` records of this shape, each of at most [`RECORD_LIMIT`] bytes, with none in it.
     pub fn new(alloc: Global, shape: &Shape, count: u32) -> Result<Segment, Memory>
@@ -48,6 +48,7 @@ impl Segment {
     pub fn record_at(&self, index: u32) -> Record<'_>
         requires { index < used_in self.now }
         ensures bytes { record_of result ≡ record_in self.now index }
+        ensures numbered { slice_get (records_in self.now) index ≡ Some (record_of result) }
         ensures shape { shape_of result ≡ shape_in self.now }
     {
         let size = self.shape.bytes() as usize;

@@ -1,4 +1,4 @@
-use Rattle.flp_check.proofs.Finding.{finds_none, finds_more}
+use Rattle.flp_check.proofs.Finding.{finds_more}
 use Rattle.flp_check.proofs.text.first_flaw.Goals as goal
 
 pub returns : goal.returns

@@ -1,4 +1,4 @@
-use Rattle.std.proofs.Common.{◌∙◌, ap, sym, arith}
+use Rattle.std.proofs.Common.{arith}
 use Rattle.flp_check.proofs.Turns.{named_is}
 use Rattle.flp_check.proofs.unroll.takes.Goals as goal
 

@@ -1,11 +1,11 @@
-use Rattle.std.proofs.Common.{◌≡◌, ◌+◌, ◌<◌, ◌≤◌, ◌^◌, ℕ, Bool, true, false, map, drop, ap, sym, subst, ◌∙◌, rules, refl}
+use Rattle.std.proofs.Common.{◌≡◌, ◌+◌, ℕ, Bool, true, false, map, drop, ap, ◌∙◌, rules, refl}
 use Rattle.flp_syntax.specs.declared.syntax.IdxItem.{the_lemmas}
-use Rattle.flp_syntax.specs.Tree.{Index, IndexItems, index_item_on, index_items, indices}
-use Rattle.flp_syntax.specs.Scope.{Scope, index_value, sum_from, product_from}
+use Rattle.flp_syntax.specs.Tree.{Index, IndexItems, index_item_on, index_items}
+use Rattle.flp_syntax.specs.Scope.{Scope, index_value, sum_from}
 use Rattle.flp_syntax.specs.View.{index_of, index_item_of, index_of_Add, index_of_Mul}
-use Rattle.flp_emit.specs.Fitting.{IndexFits, SumFits, ProductFits}
+use Rattle.flp_emit.specs.Fitting.{IndexFits, SumFits}
 use Rattle.flp_emit.specs.Scopes.{scope_of, moved, CanMove}
-use Rattle.flp_emit.proofs.Rests.{rest_index_items, rest_indices}
+use Rattle.flp_emit.proofs.Rests.{rest_index_items}
 use Rattle.flp_emit.proofs.index.+index.Goals as goal
 
 -- the next item fits, can be added or subtracted, and leaves the rest fitting
@@ -28,9 +28,10 @@ index_value-product_value-requires t c =
     (search (rules, the_lemmas), rw c.as_slice-in-Mul.ensures (rw (c.in-Mul.is, index_of_Mul) at c.requires))
 
 pub sum_value-index_value-value-requires : goal.sum_value-index_value-value-requires
-sum_value-index_value-value-requires t c =
-    (search (rules, the_lemmas),
-    (next_fits _ _ _ _ _ (rw (rest_index_items _ _ c.item-item.result c.loop-item-test.true c.item-item.is) at c.loop-item.invariant.fits)).0)
+sum_value-index_value-value-requires t c = (
+  search (rules, the_lemmas),
+  (next_fits _ _ _ _ _ (rw (rest_index_items _ _ c.item-item.result c.loop-item-test.true c.item-item.is) at c.loop-item.invariant.fits)).0,
+)
 
 pub sum_value-moved-sum-requires : goal.sum_value-moved-sum-requires
 sum_value-moved-sum-requires t c =

@@ -1,11 +1,9 @@
-use Rattle.std.proofs.Common.{ℕ, ◌≡◌, ◌+◌, ◌^◌, ◌∙◌, map, drop, rules, arith}
+use Rattle.std.proofs.Common.{◌+◌, ◌^◌, ◌∙◌, map, drop, rules, arith}
 use Rattle.std.proofs.lemmas.List.{drop_all}
 use Rattle.flp_syntax.specs.declared.syntax.Item.{the_lemmas}
 use Rattle.flp_syntax.specs.Tree.{items, trees}
-use Rattle.flp_syntax.specs.Scope.{index_value}
-use Rattle.flp_syntax.specs.View.{index_of, tree_of, item_of, tree_of_Joint, tree_of_Sum, tree_of_Add, tree_of_Mul, tree_of_Pow}
+use Rattle.flp_syntax.specs.View.{tree_of, item_of, tree_of_Joint, tree_of_Sum, tree_of_Add, tree_of_Mul, tree_of_Pow}
 use Rattle.flp_meaning.specs.Meaning.{signed}
-use Rattle.flp_emit.specs.Scopes.{scope_of}
 use Rattle.flp_emit.proofs.Rests.{rest_items, rest_trees}
 use Rattle.flp_emit.proofs.Parts.{remains_more, remains_none, makes_stands, makes_changed, then_grows, sums_regroup, products_regroup, turns_none, turns_next, first_item_public, rest_items_public, rest_public}
 use Rattle.flp_emit.proofs.public.+public.Goals as goal
@@ -33,12 +31,17 @@ public_product-returns t c =
 -- ---- sums
 
 pub public_sum-public_step-requires : goal.public_sum-public_step-requires
-public_sum-public_step-requires t c =
-    (search (rules, the_lemmas),
-    (c.loop-item.invariant.grows.joint ∙ c.requires.joint,
-    (first_item_public c.item-item.result.minus (tree_of c.item-item.result.expr) (items (map item_of (drop (c.loop-item.item-index + 1) c.args.list.now)))
-    (rw (rest_items _ _ c.item-item.result c.loop-item-test.true c.item-item.is) at c.loop-item.invariant.public),
-    ((rw (rest_items _ _ c.item-item.result c.loop-item-test.true c.item-item.is) at c.loop-item.invariant.fits).0))))
+public_sum-public_step-requires t c = (
+  search (rules, the_lemmas),
+  (
+    c.loop-item.invariant.grows.joint ∙ c.requires.joint,
+    (
+      first_item_public c.item-item.result.minus (tree_of c.item-item.result.expr) (items (map item_of (drop (c.loop-item.item-index + 1) c.args.list.now)))
+          (rw (rest_items _ _ c.item-item.result c.loop-item-test.true c.item-item.is) at c.loop-item.invariant.public),
+      ((rw (rest_items _ _ c.item-item.result c.loop-item-test.true c.item-item.is) at c.loop-item.invariant.fits).0),
+    ),
+  ),
+)
 
 pub public_sum-loop-item-preserved : goal.public_sum-loop-item-preserved
 public_sum-loop-item-preserved t c = record {
@@ -79,33 +82,53 @@ public_turns-returns t c =
 -- ---- one expression
 
 pub public_step-public_turns-requires : goal.public_step-public_turns-requires
-public_step-public_turns-requires t c =
-    (search (rules, the_lemmas),
-    (c.requires.joint,
-    (rw c.deref.ensures (rw (c.in-Sum.is, tree_of_Sum) at c.requires.public),
-    (rw (c.index_value.ensures, c.index_value-in-Sum.ensures, c.as_slice-in-Sum.ensures, c.deref.ensures)
-    (rw (c.in-Sum.is, tree_of_Sum) at c.requires.fits).turns))))
+public_step-public_turns-requires t c = (
+  search (rules, the_lemmas),
+  (
+    c.requires.joint,
+    (
+      rw c.deref.ensures (rw (c.in-Sum.is, tree_of_Sum) at c.requires.public),
+      (rw (c.turns_of-over.ensures.from, c.turns_of-over.ensures.to, c.turns_of-over.ensures.name, c.deref.ensures)
+          (rw (c.in-Sum.is, tree_of_Sum) at c.requires.fits).turns),
+    ),
+  ),
+)
 
 pub public_step-public_sum-requires : goal.public_step-public_sum-requires
-public_step-public_sum-requires t c =
-    (search (rules, the_lemmas),
-    (c.requires.joint,
-    (rw c.as_slice-in-Add.ensures (rw (c.in-Add.is, tree_of_Add) at c.requires.public),
-    (rw c.as_slice-in-Add.ensures (rw (c.in-Add.is, tree_of_Add) at c.requires.fits)))))
+public_step-public_sum-requires t c = (
+  search (rules, the_lemmas),
+  (
+    c.requires.joint,
+    (
+      rw c.as_slice-in-Add.ensures (rw (c.in-Add.is, tree_of_Add) at c.requires.public),
+      (rw c.as_slice-in-Add.ensures (rw (c.in-Add.is, tree_of_Add) at c.requires.fits)),
+    ),
+  ),
+)
 
 pub public_step-public_product-requires : goal.public_step-public_product-requires
-public_step-public_product-requires t c =
-    (search (rules, the_lemmas),
-    (c.requires.joint,
-    (rw c.as_slice-in-Mul.ensures (rw (c.in-Mul.is, tree_of_Mul) at c.requires.public),
-    (rw c.as_slice-in-Mul.ensures (rw (c.in-Mul.is, tree_of_Mul) at c.requires.fits).1))))
+public_step-public_product-requires t c = (
+  search (rules, the_lemmas),
+  (
+    c.requires.joint,
+    (
+      rw c.as_slice-in-Mul.ensures (rw (c.in-Mul.is, tree_of_Mul) at c.requires.public),
+      (rw c.as_slice-in-Mul.ensures (rw (c.in-Mul.is, tree_of_Mul) at c.requires.fits).1),
+    ),
+  ),
+)
 
 pub public_step-public_step-requires : goal.public_step-public_step-requires
-public_step-public_step-requires t c =
-    (search (rules, the_lemmas),
-    (c.requires.joint,
-    (rw c.deref-in-Pow.ensures (rw (c.in-Pow.is, tree_of_Pow) at c.requires.public),
-    (rw c.deref-in-Pow.ensures (rw (c.in-Pow.is, tree_of_Pow) at c.requires.fits).1))))
+public_step-public_step-requires t c = (
+  search (rules, the_lemmas),
+  (
+    c.requires.joint,
+    (
+      rw c.deref-in-Pow.ensures (rw (c.in-Pow.is, tree_of_Pow) at c.requires.public),
+      (rw c.deref-in-Pow.ensures (rw (c.in-Pow.is, tree_of_Pow) at c.requires.fits).1),
+    ),
+  ),
+)
 
 pub public_step-returns-in-Joint : goal.public_step-returns-in-Joint
 public_step-returns-in-Joint t c =
@@ -113,7 +136,7 @@ public_step-returns-in-Joint t c =
 
 pub public_step-returns-in-Sum : goal.public_step-returns-in-Sum
 public_step-returns-in-Sum t c =
-    rw (c.in-Sum.is, tree_of_Sum, ← c.index_value.ensures, ← c.index_value-in-Sum.ensures, ← c.as_slice-in-Sum.ensures, ← c.deref.ensures)
+    rw (c.in-Sum.is, tree_of_Sum, ← c.turns_of-over.ensures.from, ← c.turns_of-over.ensures.to, ← c.turns_of-over.ensures.name, ← c.deref.ensures)
     c.public_turns.ensures
 
 pub public_step-returns-in-Add : goal.public_step-returns-in-Add

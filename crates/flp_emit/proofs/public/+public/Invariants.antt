@@ -1,4 +1,4 @@
-use Rattle.std.proofs.Common.{ℕ, ◌≡◌, ◌+◌, ◌*◌, false, drop, map}
+use Rattle.std.proofs.Common.{◌≡◌, ◌+◌, ◌*◌, false, drop, map}
 use Rattle.flp_syntax.specs.Tree.{items, trees}
 use Rattle.flp_syntax.specs.Sorts.{has_shared_item, has_shared}
 use Rattle.flp_syntax.specs.Scope.{inside, turns}
@@ -19,7 +19,7 @@ invariant-public_turns-loop-turn l = record {
       (λ reading. total
       (map (λ turn. meaning (program_of l.body).gadgets reading (inside (scope_of l.scope) l.over.name.now turn) (tree_of l.inner)) (turns l.turn l.over.to)))
       (λ reading. total
-      (map (λ turn. meaning (program_of l.body).gadgets reading (inside (scope_of l.scope) l.over.name.now turn) (tree_of l.inner)) (turns l.over.from l.over.to)))
+      (map (λ turn. meaning (program_of l.body).gadgets reading (inside (scope_of l.scope) l.over.name.now turn) (tree_of l.inner)) (turns l.over.from l.over.to)));
 }
 
 -- the items from here on are left
@@ -31,7 +31,7 @@ invariant-public_sum-loop-item l = record {
   left :
       Remains l.steps 0 (λ a b. a + b) l.sum
       (λ reading. total (items_of (program_of l.body).gadgets reading (scope_of l.scope) false (items (map item_of (drop l.item-index l.list)))))
-      (λ reading. total (items_of (program_of l.body).gadgets reading (scope_of l.scope) false (items (map item_of l.list))))
+      (λ reading. total (items_of (program_of l.body).gadgets reading (scope_of l.scope) false (items (map item_of l.list))));
 }
 
 -- the factors from here on are left
@@ -43,5 +43,5 @@ invariant-public_product-loop-factor l = record {
   left :
       Remains l.steps 1 (λ a b. a * b) l.product
       (λ reading. product (factors_of (program_of l.body).gadgets reading (scope_of l.scope) (trees (map tree_of (drop l.factor-index l.factors)))))
-      (λ reading. product (factors_of (program_of l.body).gadgets reading (scope_of l.scope) (trees (map tree_of l.factors))))
+      (λ reading. product (factors_of (program_of l.body).gadgets reading (scope_of l.scope) (trees (map tree_of l.factors))));
 }

@@ -1,4 +1,4 @@
-use Rattle.std.proofs.Common.{ℕ, ◌+◌}
+use Rattle.std.proofs.Common.{◌+◌}
 use Rattle.flp_emit.proofs.Values.{makes_of_two}
 use Rattle.flp_emit.proofs.value.added.Goals as goal
 

@@ -1,4 +1,4 @@
-use Rattle.std.proofs.Common.{ℕ, ◌*◌, ◌-◌}
+use Rattle.std.proofs.Common.{◌*◌, ◌-◌}
 use Rattle.flp_field.specs.Word.{modulus}
 use Rattle.flp_emit.proofs.Values.{makes_of_two, makes_with_number, within_later}
 use Rattle.flp_emit.proofs.value.with_sign.Goals as goal

@@ -1,4 +1,4 @@
-use Rattle.std.proofs.Common.{List, ℕ, take, ap, ◌∙◌, ◌%◌, arith}
+use Rattle.std.proofs.Common.{List, ℕ, ap, ◌∙◌, ◌%◌, arith}
 use Rattle.std.proofs.lemmas.List.{take_all}
 use Rattle.flp_field.specs.Word.{modulus}
 use Rattle.flp_forms.specs.declared.term.Term.{Term}

@@ -1,10 +1,10 @@
-use Rattle.std.proofs.Common.{◌≡◌, ◌≤◌, ◌+◌, ◌++◌, Some, length, arith}
+use Rattle.std.proofs.Common.{◌≡◌, ◌++◌, Some, length, arith}
 use Rattle.std.specs.Prelude.{IfSome}
 use Rattle.std.proofs.KnownBytes.{Consumes-trans}
-use Rattle.flp_report.specs.Head.{head_fault}
+use Rattle.flp_report.specs.Head.{head_fault, head_size}
 use Rattle.flp_report.proofs.KnownLemmas.{IfSome-map, IfBatch-map, IfSome-before, EndedShort-known}
-use Rattle.flp_report.proofs.ReadsLemmas.{ConsumesAtMost-after, ConsumesAtMost-more}
-use Rattle.flp_report.proofs.HeadLemmas.{first_of-two, head_fault-text}
+use Rattle.flp_report.proofs.ReadsLemmas.{ConsumesWithin-all, ConsumesWithin-front}
+use Rattle.flp_report.proofs.HeadLemmas.{first_of-two, head_fault-text, head_size-least, head_size-text}
 use Rattle.flp_report.proofs.head.read_head.Goals as goal
 
 pub returns-in-Err-clause-fault : goal.returns-in-Err-clause-fault
@@ -17,8 +17,9 @@ returns-in-Err-clause-fault g c =
 
 pub returns-in-Err-clause-few : goal.returns-in-Err-clause-few
 returns-in-Err-clause-few g c =
-    let short : length c.args.head.now ≤ 65568 = omega (arith, c.requires.size.1) in
-    ConsumesAtMost-more _ _ (length c.args.head.now) 65568 c.in-Err.ensures.few short
+    let letters = c.args.letters.now in
+    let base = length c.args.head.now in
+    ConsumesWithin-all (head_size letters base c.args.party) _ _ base c.in-Err.ensures.few (head_size-least letters base c.args.party)
 
 pub returns-in-Ok-read_growing-clause-bytes : goal.returns-in-Ok-read_growing-clause-bytes
 returns-in-Ok-read_growing-clause-bytes g c = Consumes-trans _ _ _ c.read_start.new.head c.in-Ok-read_growing.text.items c.in-Ok.ensures.bytes c.in-Ok-read_growing.ensures.bytes
@@ -37,15 +38,23 @@ returns-in-Err-read_growing-clause-moved g c =
 
 pub returns-in-Ok-read_growing-clause-few : goal.returns-in-Ok-read_growing-clause-few
 returns-in-Ok-read_growing-clause-few g c =
+    let letters = c.args.letters.now in
+    let base = length c.args.head.now in
     let head = c.read_start.new.head in
-    let fits : length head + c.number_at-length.result ≤ 65568 = omega (arith, c.read_start.auto.head, c.requires.size.1, c.in-Ok.ensures.numbers.text, c.number_at-length.ensures) in
-    ConsumesAtMost-after _ _ _ head c.number_at-length.result 65568 c.in-Ok.ensures.bytes c.in-Ok-read_growing.ensures.few fits
+    let n = c.number_at-length.result in
+    ConsumesWithin-front (head_size letters base c.args.party) _ _ _ head n c.in-Ok.ensures.bytes c.in-Ok-read_growing.ensures.few (λ rest.
+    let size = head_size-text letters base c.args.party head rest c.requires.letters c.requires.size.0 c.read_start.auto.head c.in-Ok.ensures.none in
+    omega (arith, size, c.read_start.auto.head, c.number_at-length.ensures))
 
 pub returns-in-Err-read_growing-clause-few : goal.returns-in-Err-read_growing-clause-few
 returns-in-Err-read_growing-clause-few g c =
+    let letters = c.args.letters.now in
+    let base = length c.args.head.now in
     let head = c.read_start.new.head in
-    let fits : length head + c.number_at-length.result ≤ 65568 = omega (arith, c.read_start.auto.head, c.requires.size.1, c.in-Ok.ensures.numbers.text, c.number_at-length.ensures) in
-    ConsumesAtMost-after _ _ _ head c.number_at-length.result 65568 c.in-Ok.ensures.bytes c.in-Err-read_growing.ensures.few fits
+    let n = c.number_at-length.result in
+    ConsumesWithin-front (head_size letters base c.args.party) _ _ _ head n c.in-Ok.ensures.bytes c.in-Err-read_growing.ensures.few (λ rest.
+    let size = head_size-text letters base c.args.party head rest c.requires.letters c.requires.size.0 c.read_start.auto.head c.in-Ok.ensures.none in
+    omega (arith, size, c.read_start.auto.head, c.number_at-length.ensures))
 
 pub returns-in-Err-read_growing-clause-fault : goal.returns-in-Err-read_growing-clause-fault
 returns-in-Err-read_growing-clause-fault g c =

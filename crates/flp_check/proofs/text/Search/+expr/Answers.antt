@@ -1,4 +1,3 @@
-use Rattle.std.proofs.lemmas.List.{drop_all}
 use Rattle.flp_syntax.specs.View.{tree_of_Number, tree_of_Var, tree_of_Joint, tree_of_Meas, tree_of_MeasOrZero, tree_of_Sum, tree_of_Call, tree_of_Add, tree_of_Mul, tree_of_Pow, arg_of_One, arg_of_Each}
 use Rattle.flp_check.proofs.Rests.{rest_items, rest_trees, rest_args}
 use Rattle.flp_check.proofs.Finding.{finds_none, finds_more}
@@ -46,8 +45,11 @@ expr-returns-in-MeasOrZero t c = rw (c.in-MeasOrZero.is, tree_of_MeasOrZero) c.i
 pub expr-returns-in-Sum : goal.expr-returns-in-Sum
 expr-returns-in-Sum t c = rw (c.in-Sum.is, tree_of_Sum, ← c.deref.ensures) c.sum.ensures
 
-pub expr-returns-in_ok-args-in-Call : goal.expr-returns-in_ok-args-in-Call
-expr-returns-in_ok-args-in-Call t c = rw (c.in-Call.is, tree_of_Call, ← c.as_slice.ensures) (finds_more c.called.ensures (finds_more c.note-in-Call.ensures c.in_ok-args-in-Call.ensures))
+pub expr-returns-in-Call : goal.expr-returns-in-Call
+expr-returns-in-Call t c = rw (c.in-Call.is, tree_of_Call, ← c.as_slice.ensures) c.call.ensures
+
+pub call-returns : goal.call-returns
+call-returns t c = finds_more c.called.ensures (finds_more c.note.ensures c.in_ok-args.ensures)
 
 pub expr-returns-in-Add : goal.expr-returns-in-Add
 expr-returns-in-Add t c =

@@ -1,4 +1,4 @@
-use Rattle.std.proofs.Common.{List, length, map, ap, ap₂, sym, ◌++◌, ◌∷◌, [], ◌∙◌, arith}
+use Rattle.std.proofs.Common.{List, length, map, ap, ap₂, ◌++◌, ◌∷◌, [], ◌∙◌, arith}
 use Rattle.std.proofs.lemmas.Result.{err_from_is_err_and}
 use Rattle.flp_forms.specs.declared.term.Term.{Term}
 use Rattle.flp_forms.specs.declared.forms.Span.{Span}

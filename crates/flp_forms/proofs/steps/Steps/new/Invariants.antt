@@ -1,6 +1,5 @@
-use Rattle.std.proofs.Common.{◌≡◌, ℕ, length, map}
+use Rattle.std.proofs.Common.{◌≡◌, map}
 use Rattle.std.specs.List.{range_with_len}
-use Rattle.flp_forms.specs.declared.step.Step.{Step}
 use Rattle.flp_forms.specs.declared.step.Step.TheVariants.{Joint}
 use Rattle.flp_forms.proofs.steps.Steps.new.Given as goal
 

@@ -1,4 +1,4 @@
-use Rattle.std.proofs.Common.{ℕ, List, sym, ◌∙◌}
+use Rattle.std.proofs.Common.{sym, ◌∙◌}
 use Rattle.flp_forms.proofs.LineLemmas.{public_at-constant}
 use Rattle.flp_forms.proofs.steps.Steps.scale_of.Goals as goal
 

@@ -1,0 +1,20 @@
+use Rattle.std.proofs.Common.{map, drop}
+use Rattle.flp_syntax.specs.Tree.{trees}
+use Rattle.flp_syntax.specs.View.{tree_of, program_of}
+use Rattle.flp_meaning.specs.Meaning.{product}
+use Rattle.flp_forms.specs.StraightLine.{Grows}
+use Rattle.flp_emit.specs.Fitting.{FactorsFit}
+use Rattle.flp_emit.specs.Scopes.{scope_of}
+use Rattle.flp_emit.specs.Emitting.{ScaleRemains, public_parts}
+use Rattle.flp_emit.proofs.public.public_scale.Given as goal
+
+-- the factors from here on are left
+abbrev pub invariant-loop-factor : goal.invariant-loop-factor
+invariant-loop-factor l = record {
+  grows : Grows l.fn.steps l.steps;
+  fits : FactorsFit (program_of l.body) (scope_of l.scope) (trees (map tree_of (drop l.factor-index l.factors)));
+  left :
+      ScaleRemains l.steps l.fn.scale l.all
+      (λ reading. product (public_parts (program_of l.body).gadgets reading (scope_of l.scope) (trees (map tree_of (drop l.factor-index l.factors)))))
+      (λ reading. product (public_parts (program_of l.body).gadgets reading (scope_of l.scope) (trees (map tree_of l.factors))));
+}
