@@ -15,3 +15,5 @@ pub mod Forming
 pub mod Listing
 -- runs of public expressions, and products with one shared factor
 pub mod PlainRuns
+-- counts as far as they have come
+pub mod Counting

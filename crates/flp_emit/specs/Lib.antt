@@ -10,3 +10,5 @@ pub mod Scopes
 pub mod Standing
 -- how the code grows while parts of a circuit are emitted
 pub mod Emitting
+-- counts of 64 bits
+pub mod Counts

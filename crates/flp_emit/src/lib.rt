@@ -19,10 +19,12 @@ mod scope;
 mod shared;
 mod sorts;
 mod stmt;
+mod terms;
 mod value;
 
 pub use body::emit;
 pub use code::{CallForms, Code};
+pub use terms::term_count;
 /// Want of memory.
 pub use std::alloc::AllocError as Memory;
 

@@ -1,14 +1,14 @@
 -- A checked circuit is linear: where the text has no flaw, no two shared values are multiplied but in a gadget. From lists of flaws up to circuits.
 use Rattle.std.proofs.Common.{ℕ, ◌≡◌, Bool, true, false, ◌&&◌, ◌||◌, List, [], ◌∷◌, ◌++◌, refl, ap, sym, subst, ◌∙◌}
-use Rattle.std.specs.Prelude.{Option, None, Some, option_map, Result, Ok, Err, if◌then◌else◌, nat_lt}
-use Rattle.flp_syntax.specs.declared.fault.LangFault.{LangFault}
+use Rattle.std.specs.Prelude.{Ok}
 use Rattle.flp_syntax.specs.Tree.{Index, Tree, number, var, joint, meas, meas_or_zero, sum, call, add, mul, pow, Items, no_items, item_on, Trees, no_trees, tree_on, Argument, one, each_arg, Arguments, no_args, arg_on, Statement, check, out, each, Statements, no_stmts, stmt_on, Declaration, Program, tree_at}
 use Rattle.flp_syntax.specs.Sorts.{is_shared, has_shared, has_shared_item}
 use Rattle.flp_check.specs.declared.flaw.Flaw.{Flaw}
 use Rattle.flp_check.specs.declared.flaw.Rule.{Rule}
 use Rattle.flp_check.specs.declared.flaw.Rule.TheVariants.{Name, Twice, NotLinear}
-use Rattle.flp_check.specs.Flaws.{Names, is_gadget, flaw_if, range_flaws, index_flaws, tree_flaws, items_flaws, factors_flaws, arg_flaws, args_flaws, stmt_flaws, stmts_flaws, declarations_flaws, text_flaws, order_of, earlier_of, first_flaw}
-use Rattle.flp_check.specs.Verdict.{Totals, unless, flaw_fault, verdict}
+use Rattle.flp_check.specs.Flaws.{Names, is_gadget, flaw_if, range_flaws, index_flaws, tree_flaws, items_flaws, factors_flaws, arg_flaws, args_flaws, stmt_flaws, stmts_flaws, declarations_flaws, text_flaws}
+use Rattle.flp_check.specs.Verdict.{Totals, verdict}
+use Rattle.flp_check.proofs.VerdictLemmas.{passes}
 use Rattle.flp_meaning.specs.Linear.{HasOneShared, TreeIsLinear, ItemsAreLinear, FactorsAreLinear, ArgumentIsLinear, ArgumentsAreLinear, StatementIsLinear, StatementsAreLinear, IsLinear}
 
 -- ---- no flaw
@@ -20,26 +20,6 @@ none_of_both (flaw ∷ more) two none = cc
 no_flaw_if : (flawed : Bool) (token : ℕ) (rule : Rule) → flaw_if flawed token rule ≡ [] → flawed ≡ false
 no_flaw_if true token rule none = cc
 no_flaw_if false token rule none = refl
-
-some_first : (flaw : Flaw) (other : Option Flaw) → earlier_of (Some flaw) other ≡ None → ⊥
-some_first flaw None none = cc
-some_first flaw (Some other) none = either (nat_lt (order_of other) (order_of flaw)) none
-  where
-    either : (test : Bool) → (if test then Some other else Some flaw) ≡ None → ⊥
-    either true e = cc
-    either false e = cc
-
-no_first : (flaws : List Flaw) → first_flaw flaws ≡ None → flaws ≡ []
-no_first [] none = refl
-no_first (flaw ∷ more) none = absurd (some_first flaw (first_flaw more) none)
-
-no_fault : (found : Option Flaw) → option_map flaw_fault found ≡ None → found ≡ None
-no_fault None none = refl
-no_fault (Some flaw) none = cc
-
-passed : {A : Type 0} (fault : Option LangFault) (next : Result A LangFault) (value : A) → unless fault next ≡ Ok value → (fault ≡ None) × (next ≡ Ok value)
-passed None next value ok = (refl, ok)
-passed (Some fault) next value ok = cc
 
 or_true : (b : Bool) → (b || true) ≡ true
 or_true true = refl
@@ -130,7 +110,5 @@ module _ (gadgets : List Declaration) where
 
 pub checked_is_linear : (body : Program) (totals : Totals) → verdict body ≡ Ok totals → IsLinear body
 checked_is_linear body totals ok =
-    let declared = passed _ _ totals ok in
-    let text = passed _ _ totals declared.1 in
-    let none : text_flaws body ≡ [] = no_first (text_flaws body) (no_fault (first_flaw (text_flaws body)) text.0) in
-    stmts_linear body.gadgets [] body.stmts (none_of_both (declarations_flaws [] body.gadgets) (stmts_flaws body.gadgets [] body.stmts) none).1
+    stmts_linear body.gadgets [] body.stmts
+    (none_of_both (declarations_flaws [] body.gadgets) (stmts_flaws body.gadgets [] body.stmts) (passes body totals ok).flaws).1

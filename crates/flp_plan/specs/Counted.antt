@@ -1,5 +1,5 @@
 -- The lengths of a circuit as the program holds them, and what compiling refuses.
-use Rattle.std.specs.Prelude.{ℕ, ◌≡◌, nat_lt, if◌then◌else◌, Option, None, Some}
+use Rattle.std.specs.Prelude.{ℕ, ◌≡◌, ◌≤◌, nat_lt, if◌then◌else◌, Option, None, Some}
 use Rattle.flp_syntax.specs.Tree.{Program}
 use Rattle.flp_meaning.specs.Lengths as words
 use Rattle.flp_meaning.specs.Terms.{wire_count, term_count}
@@ -24,6 +24,11 @@ lengths_of circuit =
 -- a circuit has at most this many points of wires, and as many terms
 abbrev pub most : ℕ
 most = 1048576
+
+-- neither count is past its limit
+pub record IsSmallCircuit (circuit : Program) : Type 0 where
+  pub wires : wire_count circuit ≤ most
+  pub terms : term_count circuit ≤ most
 
 -- the first count that is past its limit: the wires, and then the terms
 abbrev pub limit_fault : Program → Option PlanFault

@@ -9,6 +9,14 @@ pub mod Counted
 pub mod Limits
 -- the laws of shares
 pub mod Shares
+-- gadgets as they are declared
+pub mod Kinds
+-- gadgets as a plan holds them
+pub mod Uses
+-- how many words a gadget takes at most
+pub mod Sums
+-- calls among those of their gadget
+pub mod Numbers
 -- what a plan keeps
 pub mod Plan
 -- what every checked circuit keeps

@@ -7,23 +7,17 @@ use Rattle.flp_emit.specs.declared.code.CallForms.{CallForms}
 use Rattle.flp_emit.specs.declared.code.Code.{Code}
 use Rattle.flp_emit.specs.Code.{Tied}
 use Rattle.flp_plan.specs.declared.lengths.Lengths.{Lengths}
-use Rattle.flp_plan.specs.declared.plan.GadgetUse.{GadgetUse}
+use Rattle.flp_plan.specs.declared.gadgets.GadgetUse.{GadgetUse}
+use Rattle.flp_plan.specs.Uses.{AreUsesOf}
 use Rattle.flp_plan.specs.Counted.{lengths_of}
 use Rattle.flp_plan.specs.Limits.{IsWithinLimits}
 use Rattle.flp_plan.specs.Keeps.{Keeps}
-
--- a gadget's kind, its calls and the exponent of the size of its domain
-pub record IsUse (circuit : Program) (gadget : ℕ) (held : GadgetUse) : Type 0 where
-  pub kind : held.kind ≡ kind_of circuit gadget
-  pub calls : held.calls ≡ calls_made circuit gadget
-  pub log : held.log ≡ log_of circuit gadget
 
 pub record IsPlanOf (circuit : Program) (code : Code) (held : List GadgetUse) (counted : List ℕ) (sizes : Lengths) : Type 0 where
   pub keeps : Keeps circuit
   pub limits : IsWithinLimits circuit
   pub tied : Tied circuit code
-  pub gadget_count : length held ≡ length circuit.gadgets
-  pub gadgets : (gadget : ℕ) (found : GadgetUse) → slice_get held gadget ≡ Some found → IsUse circuit gadget found
+  pub uses : AreUsesOf circuit held
   pub number_count : length counted ≡ call_count circuit
   pub numbers : (number : ℕ) → number < call_count circuit → slice_index counted number ≡ call_number circuit number
   pub lengths : sizes ≡ lengths_of circuit

@@ -16,15 +16,16 @@
 //! CRYPTO 2019.
 #![tactic(auto)]
 
-mod checked;
 mod compiler;
 mod evaluate;
 mod fault;
+mod gadgets;
+mod kinds;
 pub mod laws;
 mod lengths;
+mod numbers;
 mod plan;
 
-pub use checked::Checked;
 pub use compiler::compile;
 pub use fault::{PlanCounted, PlanFault};
 pub use lengths::Lengths;

@@ -5,23 +5,15 @@ ghost use Rattle.flp_meaning.specs.Gadgets.{arity_of, calls_made, log_of, call_c
 ghost use Rattle.flp_plan.specs.Counted.{lengths_of};
 ghost use Rattle.flp_plan.specs.View.{publics_of, HasInputs};
 
-use crate::checked::Checked;
 use crate::evaluate::write_values;
+use crate::gadgets::GadgetUse;
 use crate::lengths::Lengths;
+use flp_check::Checked;
 use flp_emit::Code;
 use flp_field::Fe;
 use flp_forms::form_at;
 use flp_gadget::Kind;
 use std::marker::Model;
-
-/// A gadget as a plan holds it.
-#[derive(Drop)]
-pub(crate) struct GadgetUse {
-    pub(crate) kind: Kind,
-    pub(crate) calls: u32,
-    /// The exponent of the size of its domain, a power of two.
-    pub(crate) log: u32,
-}
 
 /// A compiled circuit: public values in a straight line, and linear forms for the inputs of calls, the checks
 /// and the outs. It keeps the checked circuit from which it came.
@@ -29,11 +21,11 @@ pub(crate) struct GadgetUse {
 /// Contracts see that circuit, and the steps of the public values.
 #[derive(Drop)]
 pub struct Plan {
-    checked: Checked,
-    gadgets: Vec<GadgetUse>,
+    pub(crate) checked: Checked,
+    pub(crate) gadgets: Vec<GadgetUse>,
     /// The number of each call among those of its gadget, from 1.
-    numbers: Vec<u32>,
-    lengths: Lengths,
+    pub(crate) numbers: Vec<u32>,
+    pub(crate) lengths: Lengths,
     pub(crate) code: Code,
 }
 
