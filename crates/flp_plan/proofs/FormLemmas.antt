@@ -28,13 +28,12 @@ range_length xs first count there =
     let dropped : length (drop first xs) ≡ length xs - first = length-drop first xs in
     omega arith
 
-pub form_there : (forms : List (List Term)) (first count k : ℕ) (form : List Term) (P : List Term → Type 0)
-    → first + count ≤ length forms → k < count → All P (take count (drop first forms))
-    → slice_get forms (first + k) ≡ Some form → P form
-form_there forms first count k form P there below all found =
+-- what holds of each form of a range holds of the one with this number
+pub range_all : (P : List Term → Type 0) (forms : List (List Term)) (first count i : ℕ) → first + count ≤ length forms
+    → All P (take count (drop first forms)) → i < count → P (get_or forms (first + i) [])
+range_all P forms first count i there all below =
     let size : length (take count (drop first forms)) ≡ count = range_length forms first count there in
-    subst P (range_get forms first count k form below ∙ get_or_from_slice_get forms (first + k) form form found)
-    (all k form (omega arith))
+    subst P (range_get forms first count i [] below) (all i [] (omega arith))
 
 -- values that are right one by one are those of the forms
 pub words_by_one : (out : List ℕ) (values : List ℕ) (share : Share) (forms : List (List Term)) (first : ℕ)
@@ -50,11 +49,7 @@ words_by_one out values share forms first there right =
     ∙ ap (λ (form : List Term). form_value values share form % modulus) (sym (range_get forms first (length out) k [] below))
     ∙ sym (get_or-map (λ form. form_value values share form % modulus) range k [] d (omega arith)))
 
--- one more value is written behind those that are right
-pub value_more : (out : List ℕ) (i value : ℕ) → i < length out → (right : ℕ → ℕ)
-    → ((k : ℕ) → k < i → get_or out k 0 ≡ right k) → value ≡ right i
-    → (k : ℕ) → k < i + 1 → get_or (set out i value) k 0 ≡ right k
-value_more out i value there right below here =
-    below_more (λ k. get_or (set out i value) k 0 ≡ right k) i
-    (λ k less. get_or-set_other out i k value 0 (λ (e : k ≡ i). omega arith) ∙ below k less)
-    (get_or-set_same out i value 0 there ∙ here)
+-- a form that is read is the one that is there
+pub form_found : (forms : List (List Term)) (index : ℕ) (form : List Term) → index < length forms → form ≡ get_or forms index []
+    → slice_get forms index ≡ Some form
+form_found forms index form below is = slice_get-get_or forms index [] below ∙ ap Some (sym is)

@@ -17,7 +17,6 @@
 #![tactic(auto)]
 
 mod compiler;
-mod evaluate;
 mod fault;
 mod gadgets;
 mod kinds;
@@ -32,3 +31,6 @@ pub use lengths::Lengths;
 pub use plan::Plan;
 /// Want of memory.
 pub use std::alloc::AllocError as Memory;
+
+#[cfg(test)]
+mod tests;

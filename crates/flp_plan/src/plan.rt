@@ -5,7 +5,6 @@ ghost use Rattle.flp_meaning.specs.Gadgets.{arity_of, calls_made, log_of, call_c
 ghost use Rattle.flp_plan.specs.Counted.{lengths_of};
 ghost use Rattle.flp_plan.specs.View.{publics_of, HasInputs};
 
-use crate::evaluate::write_values;
 use crate::gadgets::GadgetUse;
 use crate::lengths::Lengths;
 use flp_check::Checked;
@@ -156,15 +155,8 @@ impl Plan {
         ensures earlier { (joint others : List ℕ) → publics.now ≡ publics_of self.now joint → take call others ≡ take call answers.now → HasInputs self.now.circuit (answered x.now joint unit others) call out.new }
     {
         let call = self.code.calls.as_slice()[call as usize];
-        write_values(
-            &self.code.inputs,
-            call.first,
-            publics,
-            x,
-            answers,
-            unit,
-            out,
-        );
+        let inputs = &self.code.inputs;
+        inputs.values(call.first as usize, publics, x, answers, unit, out);
     }
 
     /// The value of a check, with the slices and the unit as for [`Plan::inputs`].
