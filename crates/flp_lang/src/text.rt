@@ -5,10 +5,11 @@ ghost use Rattle.flp_syntax.specs.View.{program_of, text_of};
 ghost use Rattle.flp_lang.specs.Plan as plan;
 ghost use Rattle.flp_lang.specs.Plan.{Plan, next, done};
 ghost use Rattle.flp_lang.specs.Run.{Runs, IsFault, verdict};
+ghost use Rattle.flp_lang.specs.Grammar.{IsText};
 ghost use Rattle.flp_lang.specs.Verdict.{Verdict, good, Judged};
 ghost use Rattle.flp_syntax.specs.Tokens.{AreTokens, IsStuck};
 ghost use Rattle.flp_syntax.specs.declared.token.Token.{Token};
-ghost use Rattle.flp_lang.specs.Parsed.{IsParsed, IsParseFault};
+ghost use Rattle.flp_lang.specs.Parsed.{HasVerdict, IsParsed, IsParseFault};
 ghost use Rattle.flp_syntax.specs.WellFormed.{IsWellFormed};
 
 use crate::lexer::tokens_of;
@@ -79,16 +80,19 @@ pub fn parse(alloc: Global, text: &[u8]) -> Result<Circuit, LangFault>
     parse_tokens(alloc, tokens.as_slice())
 }
 
-/// No list of tokens has two verdicts: it is at most one circuit, and it has at most one least fault, and not both.
+/// The grammar is unambiguous: it derives no two circuits from one list of tokens, however many levels are open. No list of
+/// tokens has two verdicts: it is at most one circuit, and it has at most one least fault, and not both.
 pub fn one_verdict()
-    ensures { (tokens : List Token) (a b : Verdict) → Judged tokens a → Judged tokens b → a ≡ b }
+    ensures circuit { (tokens : List Token) (a b : Text) → IsText tokens a → IsText tokens b → a ≡ b }
+    ensures verdict { (tokens : List Token) (a b : Verdict) → Judged tokens a → Judged tokens b → a ≡ b }
 {}
 
-/// No bytes are two lists of tokens, and none are tokens and stuck at a byte, or stuck at two.
+/// No bytes are two lists of tokens, and none are tokens and stuck at a byte, or stuck at two. So no text has two verdicts.
 pub fn one_reading()
     ensures tokens { (text : List ℕ) (a b : List Token) → AreTokens text a → AreTokens text b → a ≡ b }
     ensures apart { (text : List ℕ) (a : List Token) (at : ℕ) → AreTokens text a → IsStuck text at → ⊥ }
     ensures stuck { (text : List ℕ) (j k : ℕ) → IsStuck text j → IsStuck text k → j ≡ k }
+    ensures verdict { (text : List ℕ) (a b : Verdict) → HasVerdict text a → HasVerdict text b → a ≡ b }
 {}
 
 #[cfg(test)]

@@ -1,5 +1,6 @@
 pub mod CallLemmas
 pub mod CompileLemmas
+pub mod EvenLemmas
 pub mod FitLemmas
 pub mod FormLemmas
 pub mod KindLemmas

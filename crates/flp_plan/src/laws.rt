@@ -2,7 +2,7 @@
 //! `specs/Shares.antt` and `specs/Limits.antt`.
 ghost use Rattle.flp_meaning.specs.Linear.{IsLinear};
 ghost use Rattle.flp_plan.specs.Limits.{IsWithinLimits};
-ghost use Rattle.flp_plan.specs.Shares.{SharesAddUp};
+ghost use Rattle.flp_plan.specs.Shares.{SharesAddUp, EvenSharesAddUp};
 
 use crate::plan::Plan;
 
@@ -13,6 +13,12 @@ pub fn shares_add_up(plan: &Plan)
 {
     let _code = &plan.code;
 }
+
+/// Shares whose units are each the inverse of their number are shares of the sums of their words and answers,
+/// with the unit 1.
+pub fn even_shares_add_up()
+    ensures { EvenSharesAddUp }
+{}
 
 /// The circuit of a plan is within the limits.
 pub fn is_within_limits(plan: &Plan)
