@@ -4,6 +4,7 @@ pub mod EvenLemmas
 pub mod FitLemmas
 pub mod FormLemmas
 pub mod KindLemmas
+pub mod LinearLemmas
 pub mod NumberLemmas
 pub mod OutLemmas
 pub mod PassedLemmas

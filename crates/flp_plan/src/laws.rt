@@ -1,5 +1,6 @@
 //! The laws of plans, each the contract of a function that does nothing. The definitions are in
 //! `specs/Shares.antt` and `specs/Limits.antt`.
+ghost use Rattle.flp_meaning.specs.Linear.{IsLinear};
 ghost use Rattle.flp_plan.specs.Limits.{IsWithinLimits};
 ghost use Rattle.flp_plan.specs.Shares.{SharesAddUp, EvenSharesAddUp};
 
@@ -22,6 +23,13 @@ pub fn even_shares_add_up()
 /// The circuit of a plan is within the limits.
 pub fn is_within_limits(plan: &Plan)
     ensures { IsWithinLimits plan.now.circuit }
+{
+    let _code = &plan.code;
+}
+
+/// The circuit of a plan is linear: no two shared values are multiplied but in a gadget.
+pub fn is_linear(plan: &Plan)
+    ensures { IsLinear plan.now.circuit }
 {
     let _code = &plan.code;
 }
