@@ -12,7 +12,7 @@ unit_is_inverse shares some word =
     let size : group_size ≡ 18446744069414584320 = group_size_is in (
       mod_word _,
       ap (λ (n : ℕ). n % modulus) (mul_comm (share_unit shares) shares)
-      ∙ inverse_by_power shares 18446744069414584319 (omega arith) (omega arith) word,
+          ∙ inverse_by_power shares 18446744069414584319 (omega arith) (omega arith) word,
     )
 
 -- no other word has this product

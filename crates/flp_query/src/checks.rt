@@ -20,13 +20,7 @@ pub(crate) fn combined_check(plan: &Plan, reading: &Reading, words: &[Fe]) -> Fe
 {
     laws::is_within_limits(plan);
     if plan.checks() == 1 {
-        return plan.check(
-            0,
-            reading.publics,
-            reading.x,
-            reading.answers,
-            reading.unit,
-        );
+        return plan.check(0, reading.publics, reading.x, reading.answers, reading.unit);
     }
     let mut sum = Fe::ZERO;
     for index in 0..plan.checks() {

@@ -3,8 +3,7 @@
 ghost use Rattle.flp_query.specs.Unit.{UnitIsInverse};
 ghost use Rattle.flp_query.specs.Laws.{VerifiersSumUp, RefusalsAreAlike, HonestIsTaken, SharedHonestIsTaken};
 
-use flp_plan::Plan;
-use flp_plan::laws as plans;
+use flp_plan::{Plan, laws as plans};
 
 /// What 1 counts as on one of some shares is the inverse of their number.
 pub fn units()

@@ -41,7 +41,16 @@ pub(crate) fn write_parts(
     for gadget in 0..plan.gadgets() {
         let end = start + arity(plan, gadget) + 1;
         let at = point(plan, words, gadget);
-        write_part(plan, gadget, reading, proof, at, rows, room, &mut parts[start..end]);
+        write_part(
+            plan,
+            gadget,
+            reading,
+            proof,
+            at,
+            rows,
+            room,
+            &mut parts[start..end],
+        );
         start = end;
     }
 }

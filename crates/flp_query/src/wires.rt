@@ -16,13 +16,7 @@ use flp_plan::{Plan, laws};
 use flp_poly::eval;
 
 /// Writes the rows of a gadget: its seeds, the inputs of each of its calls, and zeros at the points that are left.
-pub(crate) fn write_rows(
-    plan: &Plan,
-    gadget: u32,
-    reading: &Reading,
-    seeds: &[Fe],
-    rows: &mut [Fe],
-)
+pub(crate) fn write_rows(plan: &Plan, gadget: u32, reading: &Reading, seeds: &[Fe], rows: &mut [Fe])
     requires gadget { gadget < length plan.now.circuit.gadgets }
     requires publics { length reading.now.publics.now ≡ length plan.now.steps }
     requires x { length reading.now.x.now ≡ plan.now.circuit.meas }
