@@ -34,3 +34,6 @@ pub use scratch::Scratch;
 pub use sizes::{GadgetSize, Sizes};
 /// Want of memory.
 pub use std::alloc::AllocError as Memory;
+
+#[cfg(test)]
+mod tests;
