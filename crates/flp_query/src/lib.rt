@@ -22,6 +22,7 @@ mod domains;
 pub mod laws;
 mod parts;
 mod reading;
+mod rooms;
 mod scratch;
 mod sizes;
 mod unit;

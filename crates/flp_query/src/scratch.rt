@@ -1,25 +1,19 @@
 //! The query of a share.
-ghost use Rattle.std.specs.Prelude.{◌≡◌, ◌≤◌, List, length, IfOk, OnOk, IfErr, OnErr, None, Some};
+ghost use Rattle.std.specs.Prelude.{◌≡◌, ◌≤◌, ℕ, List, length, IfOk, OnOk, IfErr, OnErr, None, Some};
 ghost use Rattle.flp_meaning.specs.Verifier.{gadget_in_domain as domain_of, verifier_words};
 ghost use Rattle.flp_plan.specs.Counted.{lengths_of};
+ghost use Rattle.flp_plan.specs.View.{publics_of};
 ghost use Rattle.flp_query.specs.Sizes.{sizes_of};
 ghost use Rattle.flp_query.specs.Unit.{share_unit};
 
 use crate::Memory;
-use crate::answers::write_answers;
-use crate::checks::combined_check;
 use crate::domains::{InDomain, gadget_in_domain};
-use crate::reading::Reading;
-use crate::sizes::{Sizes, most_row_words, sizes_of};
-use crate::unit::unit_of;
-use crate::verifier::write_parts;
+use crate::rooms::Rooms;
+use crate::sizes::{Sizes, sizes_of};
 use flp_field::Fe;
 use flp_plan::{Plan, laws};
 use std::alloc::Global;
 use std::marker::Model;
-
-/// The points that a domain has at most.
-const MOST_POINTS: usize = 4096;
 
 /// Room for a query, made once for a plan and used again for each share.
 ///
@@ -29,11 +23,7 @@ const MOST_POINTS: usize = 4096;
 pub struct Scratch {
     sizes: Sizes,
     publics: Vec<Fe>,
-    answers: Vec<Fe>,
-    /// The values of a gadget's wires on its domain, point by point.
-    rows: Vec<Fe>,
-    /// The values of one wire, and then its coefficients.
-    room: Vec<Fe>,
+    rooms: Rooms,
 }
 
 impl Model for Scratch {
@@ -45,7 +35,7 @@ impl Model for Scratch {
 
     ghost view = { λ scratch. scratch.sizes };
 
-    ghost invariant = { λ scratch. HasRoom scratch.sizes (vec_len scratch.publics) (vec_len scratch.answers) (vec_len scratch.rows) (vec_len scratch.room) };
+    ghost invariant = { λ scratch. HasRoom scratch.sizes (vec_len scratch.publics) (vec_len scratch.rooms.answers) (vec_len scratch.rooms.rows) (vec_len scratch.rooms.room) };
 }
 
 impl Scratch {
@@ -56,15 +46,11 @@ impl Scratch {
         laws::is_within_limits(plan);
         let sizes = sizes_of(alloc, plan)?;
         let publics = vec![in alloc; Fe::ZERO; plan.publics_len() as usize]?;
-        let answers = vec![in alloc; Fe::ZERO; plan.call_count() as usize]?;
-        let rows = vec![in alloc; Fe::ZERO; most_row_words(plan)]?;
-        let room = vec![in alloc; Fe::ZERO; MOST_POINTS]?;
+        let rooms = Rooms::new(alloc, plan)?;
         Ok(Scratch {
             sizes,
             publics,
-            answers,
-            rows,
-            room,
+            rooms,
         })
     }
 
@@ -98,30 +84,49 @@ impl Scratch {
         ensures unchanged { OnErr result (verifier.new ≡ verifier.old) }
         ensures again { self.new ≡ self.old }
     {
-        if let Some(gadget) = gadget_in_domain(plan, words) {
+        let refused = gadget_in_domain(plan, words);
+        if let Some(gadget) = refused {
             return Err(InDomain { gadget });
         }
         laws::is_within_limits(plan);
         let publics: &mut [Fe] = &mut self.publics;
         plan.publics(joint, publics);
-        let answers: &mut [Fe] = &mut self.answers;
-        write_answers(plan, proof, answers);
-        let reading = Reading {
-            publics,
-            x,
-            answers,
-            unit: unit_of(shares),
-        };
-        verifier[0] = combined_check(plan, &reading, words);
-        write_parts(
-            plan,
-            &reading,
-            proof,
-            words,
-            &mut self.rows,
-            &mut self.room,
-            &mut verifier[1..],
-        );
+        self.rooms
+            .write_words(plan, publics, x, proof, words, shares, verifier);
+        Ok(())
+    }
+
+    /// Does what [`Scratch::query`] does, with the public values in place of the joint words: `publics` is what
+    /// [`Plan::publics`] wrote under these. So they are made once for all shares of a report.
+    pub fn query_with(
+        &mut self,
+        plan: &Plan,
+        publics: &[Fe],
+        x: &[Fe],
+        proof: &[Fe],
+        words: &[Fe],
+        shares: u32,
+        verifier: &mut [Fe],
+    ) -> Result<(), InDomain>
+        requires made { self.old ≡ sizes_of plan.now }
+        requires publics { length publics.now ≡ length plan.now.steps }
+        requires x { length x.now ≡ (lengths_of plan.now.circuit).meas }
+        requires proof { length proof.now ≡ (lengths_of plan.now.circuit).proof }
+        requires words { length words.now ≡ (lengths_of plan.now.circuit).query }
+        requires some { 1 ≤ shares }
+        requires few { shares ≤ 16 }
+        requires verifier { length verifier.old ≡ (lengths_of plan.now.circuit).verifier }
+        ensures outside { OnOk result (domain_of plan.now.circuit words.now ≡ None) }
+        ensures verifier { OnOk result ((joint : List ℕ) → publics.now ≡ publics_of plan.now joint → verifier.new ≡ verifier_words plan.now.circuit x.now joint proof.now words.now (share_unit shares)) }
+        ensures inside { IfErr result (λ refusal. domain_of plan.now.circuit words.now ≡ Some refusal.gadget) }
+        ensures unchanged { OnErr result (verifier.new ≡ verifier.old) }
+        ensures again { self.new ≡ self.old }
+    {
+        if let Some(gadget) = gadget_in_domain(plan, words) {
+            return Err(InDomain { gadget });
+        }
+        self.rooms
+            .write_words(plan, publics, x, proof, words, shares, verifier);
         Ok(())
     }
 }

@@ -1,23 +1,19 @@
-use Rattle.std.proofs.Common.{ℕ, ◌≡◌, ◌*◌, ◌<◌, ◌≤◌, ◌∙◌, List, ◌∷◌, length, vec_len, ap, ap₂, sym, subst, arith}
-use Rattle.std.specs.List.{sum_by, flat_map}
+use Rattle.std.proofs.Common.{ℕ, ◌≡◌, ◌*◌, ◌≤◌, ◌∙◌, List, ◌∷◌, length, vec_len, refl, ap, ap₂, sym, subst, arith}
+use Rattle.std.specs.List.{flat_map}
 use Rattle.std.proofs.lemmas.List.FromFn.{length-map-range_with_len}
 use Rattle.flp_meaning.specs.Circuit.{checks_of, answered}
 use Rattle.flp_meaning.specs.Gadgets.{gadgets_of, size_of, arity_of, call_count}
 use Rattle.flp_meaning.specs.Proof.{answer_in}
 use Rattle.flp_meaning.specs.Verifier.{check_of, verifier_of}
-use Rattle.flp_query.specs.declared.sizes.GadgetSize.{GadgetSize}
-use Rattle.flp_query.specs.declared.sizes.Sizes.{Sizes}
 use Rattle.flp_query.specs.Sizes.{sizes_of}
 use Rattle.flp_query.proofs.SizeLemmas.{calls-total, rows-there}
 use Rattle.flp_query.proofs.VerifierLemmas.{joined}
-use Rattle.flp_query.proofs.scratch.Scratch.query.Goals as goal
+use Rattle.flp_query.proofs.rooms.Rooms.write_words.Goals as goal
 
 pub write_answers-requires-clause-room : goal.write_answers-requires-clause-room
 write_answers-requires-clause-room c =
-    let made : c.self.inside.sizes ≡ sizes_of c.args.plan.now = c.self.view_is ∙ c.requires.made in
     c.deref_mut-answers.ensures.len
-    ∙ c.self.invariant.for_answers
-    ∙ ap (λ (sizes : Sizes). sum_by (λ (gadget : GadgetSize). gadget.calls) sizes.gadgets) made
+    ∙ c.requires.room.for_answers
     ∙ calls-total c.args.plan.now.circuit c.is_within_limits.ensures
 
 pub combined_check-requires-clause-answers : goal.combined_check-requires-clause-answers
@@ -27,16 +23,15 @@ combined_check-requires-clause-answers c =
 
 pub write_parts-requires-clause-rows : goal.write_parts-requires-clause-rows
 write_parts-requires-clause-rows c g inside =
-    let made : c.self.inside.sizes ≡ sizes_of c.args.plan.now = c.self.view_is ∙ c.requires.made in
     subst (λ (n : ℕ). size_of c.args.plan.now.circuit g * arity_of c.args.plan.now.circuit g ≤ n) (sym c.deref_mut.ensures.len)
-    (rows-there c.args.plan.now.circuit c.self.inside.sizes.gadgets (vec_len c.self.inside.rows) (ap (λ (sizes : Sizes). sizes.gadgets) made) c.self.invariant.for_rows g inside)
+    (rows-there c.args.plan.now.circuit (sizes_of c.args.plan.now).gadgets (vec_len c.args.self.now.rows) refl c.requires.room.for_rows g inside)
 
-pub returns-clause-verifier : goal.returns-clause-verifier
-returns-clause-verifier c =
+pub returns-clause-words : goal.returns-clause-words
+returns-clause-words c joint same =
     joined c.args.verifier.now c.write_parts.new.parts c.combined_check.result (omega (arith, c.requires.verifier))
     ∙ ap₂ (λ (v : ℕ) (l : List ℕ). v ∷ l)
-    (c.combined_check.ensures c.args.joint.now c.publics.ensures
-    ∙ ap₂ (λ (a : List ℕ) (u : ℕ). check_of c.args.plan.now.circuit (checks_of c.args.plan.now.circuit (answered c.args.x.now c.args.joint.now u a)) c.args.words.now)
+    (c.combined_check.ensures joint same
+    ∙ ap₂ (λ (a : List ℕ) (u : ℕ). check_of c.args.plan.now.circuit (checks_of c.args.plan.now.circuit (answered c.args.x.now joint u a)) c.args.words.now)
     c.write_answers.ensures c.unit_of.ensures)
-    (c.write_parts.ensures c.args.joint.now c.publics.ensures
-    ∙ ap (λ (u : ℕ). flat_map (verifier_of c.args.plan.now.circuit c.args.x.now c.args.joint.now c.args.proof.now c.args.words.now u) (gadgets_of c.args.plan.now.circuit)) c.unit_of.ensures)
+    (c.write_parts.ensures joint same
+    ∙ ap (λ (u : ℕ). flat_map (verifier_of c.args.plan.now.circuit c.args.x.now joint c.args.proof.now c.args.words.now u) (gadgets_of c.args.plan.now.circuit)) c.unit_of.ensures)
