@@ -13,9 +13,14 @@
 //! Data via Fully Linear PCPs", CRYPTO 2019, counted word by word.
 #![tactic(auto)]
 
+mod checks;
 pub mod laws;
+mod lies;
 mod word;
 
 pub use word::{Weak, weak_word};
 /// Want of memory.
 pub use std::alloc::AllocError as Memory;
+
+#[cfg(test)]
+mod tests;

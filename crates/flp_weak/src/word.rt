@@ -1,13 +1,19 @@
 //! The weak word of a proof.
-ghost use Rattle.std.specs.Prelude.{◌≡◌, ◌↔◌, length, IfOk, IfSome, None};
+ghost use Rattle.std.specs.Prelude.{◌≡◌, ◌<◌, ◌↔◌, length, IfOk, IfSome, None};
 ghost use Rattle.flp_meaning.specs.Circuit.{IsValid};
+ghost use Rattle.flp_meaning.specs.Gadgets.{check_count};
 ghost use Rattle.flp_plan.specs.Counted.{lengths_of};
 ghost use Rattle.flp_weak.specs.AtMost.{Bounded};
-ghost use Rattle.flp_weak.specs.WeakWord.{weak_of};
+ghost use Rattle.flp_weak.specs.WeakWord as weak;
 
 use crate::Memory;
-use flp_field::Fe;
-use flp_plan::Plan;
+use crate::checks::failing_check;
+use crate::laws::{counted_soundness, valid_has_none};
+use crate::lies::lying_gadget;
+use flp_field::{Fe, laws as words};
+use flp_gadget::Gadget;
+use flp_plan::{Plan, laws};
+use flp_query::parts::domain_size;
 use std::alloc::Global;
 
 /// A word of a query, and how many of its values are accepted at most while the other words are fixed.
@@ -38,10 +44,49 @@ pub fn weak_word(
     requires x { length x.now ≡ (lengths_of plan.now.circuit).meas }
     requires joint { length joint.now ≡ (lengths_of plan.now.circuit).joint }
     requires proof { length proof.now ≡ (lengths_of plan.now.circuit).proof }
-    ensures exact { IfOk result (λ answer. answer ≡ weak_of plan.now.circuit x.now joint.now proof.now) }
+    ensures exact { IfOk result (λ answer. answer ≡ weak.weak_of plan.now.circuit x.now joint.now proof.now) }
     ensures none { IfOk result (λ answer. (answer ≡ None) ↔ IsValid plan.now.circuit x.now joint.now) }
     ensures bounded { IfOk result (λ answer. IfSome answer (λ weak. Bounded plan.now.circuit x.now joint.now proof.now weak.word weak.bound)) }
 {
-    let _room = vec![in alloc; Fe::ZERO; plan.call_count() as usize]?;
-    Err(Memory)
+    words::words(proof);
+    counted_soundness(plan);
+    valid_has_none(plan);
+    let mut publics = vec![in alloc; Fe::ZERO; plan.publics_len() as usize]?;
+    plan.publics(joint, &mut publics);
+    let Some(check) = failing_check(alloc, plan, &publics, x, joint)? else {
+        return Ok(None);
+    };
+    match lying_gadget(alloc, plan, &publics, x, proof)? {
+        Some(gadget) => Ok(Some(weak_point(plan, gadget))),
+        None => Ok(Some(weak_check(plan, check))),
+    }
+}
+
+/// The point of a gadget that lies.
+fn weak_point(plan: &Plan, gadget: u32) -> Weak
+    requires { gadget < length plan.now.circuit.gadgets }
+    ensures { result ≡ weak.weak_point plan.now.circuit gadget }
+{
+    laws::is_within_limits(plan);
+    let combining = plan.lengths().query - plan.gadgets();
+    let degree = plan.kind(gadget).degree() as u64;
+    Weak {
+        word: combining + gadget,
+        bound: degree * (domain_size(plan, gadget) as u64 - 1),
+    }
+}
+
+/// The word that combines a check that is not 0, where no gadget lies.
+fn weak_check(plan: &Plan, check: u32) -> Weak
+    requires { check < check_count plan.now.circuit }
+    ensures { result ≡ weak.weak_check plan.now.circuit check }
+{
+    if plan.checks() > 1 {
+        Weak {
+            word: check,
+            bound: 1,
+        }
+    } else {
+        Weak { word: 0, bound: 0 }
+    }
 }
