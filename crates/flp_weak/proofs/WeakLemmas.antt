@@ -79,13 +79,16 @@ valid_has_none body x joint proof = (
 same_weak : (one other : Weak) → Some one ≡ Some other → one ≡ other
 same_weak one other same = ap (λ (found : Option Weak). unwrap_or found one) same
 
-weak_check-several : (body : Program) (number : ℕ) → ltb 1 (check_count body) ≡ true → record { word = number; bound = 1 } ≡ weak_check body number
-weak_check-several body number several =
-    sym (ap (λ b. cond b (record { word = number; bound = 1 }) (record { word = 0; bound = 0 })) several)
+abbrev made : (word bound : ℕ) → Weak
+made word bound = record { word = word; bound = bound }
 
-weak_check-alone : (body : Program) (number : ℕ) → ltb 1 (check_count body) ≡ false → record { word = 0; bound = 0 } ≡ weak_check body number
+weak_check-several : (body : Program) (number : ℕ) → ltb 1 (check_count body) ≡ true → made number 1 ≡ weak_check body number
+weak_check-several body number several =
+    sym (ap (λ b. cond b (made number 1) (made 0 0)) several)
+
+weak_check-alone : (body : Program) (number : ℕ) → ltb 1 (check_count body) ≡ false → made 0 0 ≡ weak_check body number
 weak_check-alone body number alone =
-    sym (ap (λ b. cond b (record { word = number; bound = 1 }) (record { word = 0; bound = 0 })) alone)
+    sym (ap (λ b. cond b (made number 1) (made 0 0)) alone)
 
 -- where no gadget lies, the answered checks are the direct ones
 none_lies-direct : (body : Program) (x joint proof : List ℕ) → IsBounded body → IsProof body proof → lying_gadget body x joint proof ≡ None

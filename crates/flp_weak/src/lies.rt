@@ -10,7 +10,7 @@ ghost use Rattle.flp_query.specs.Rows.{values_of_columns};
 ghost use Rattle.flp_weak.specs.WeakWord as weak;
 
 use crate::Memory;
-use flp_field::Fe;
+use flp_field::{Fe, laws as words};
 use flp_gadget::{Gadget, Kind};
 use flp_plan::{Plan, laws};
 use flp_poly::eval;
@@ -67,6 +67,7 @@ fn gadget_lies(
     ensures { IfOk result (λ lies. (joint : List ℕ) → reading.now.publics.now ≡ publics_of plan.now joint → lies ≡ weak.gadget_lies plan.now.circuit reading.now.x.now joint proof.now gadget) }
 {
     laws::is_within_limits(plan);
+    words::words(proof);
     let size = domain_size(plan, gadget);
     let arity = arity(plan, gadget);
     let mut rows = vec![in alloc; Fe::ZERO; size * arity]?;
