@@ -1,16 +1,20 @@
--- Looking for a gadget that lies: its polynomial is compared with the gadget at the wires, at as many points as there are coefficients.
-use Rattle.std.proofs.Common.{ℕ, ◌≡◌, ◌≢◌, ◌+◌, ◌-◌, ◌*◌, ◌<◌, ◌≤◌, Bool, true, false, List, length, map, get_or, refl, ap, ap₂, sym, subst, ◌∙◌, arith}
-use Rattle.std.specs.Prelude.{AllPairs}
-use Rattle.std.specs.List.{range_with_len}
+-- What is looked for: a gadget that lies, whose polynomial is compared with the gadget at the wires at as many points as there are coefficients, and a
+-- check that is not 0.
+use Rattle.std.proofs.Common.{ℕ, ◌≡◌, ◌≢◌, ◌+◌, ◌-◌, ◌*◌, ◌<◌, ◌≤◌, Bool, true, false, List, length, map, get_or, refl, ap, ap₂, sym, subst, ◌∙◌, eqb, arith}
+use Rattle.std.specs.Prelude.{AllPairs, Some, not, slice_index}
+use Rattle.std.specs.List.{range_with_len, slice_get}
 use Rattle.std.proofs.lemmas.Bool.{false≢true}
 use Rattle.std.proofs.lemmas.Nat.{mul-le}
+use Rattle.std.proofs.lemmas.Option.{get_or_from_slice_get}
 use Rattle.std.proofs.lemmas.List.FromFn.{length-range_with_len, get_or-range_with_len}
 use Rattle.flp_field.specs.Word.{modulus}
 use Rattle.flp_poly.specs.Polynomial.{value_at}
 use Rattle.flp_gadget.specs.KindTree.{KindTree, value_of}
 use Rattle.flp_gadget.proofs.FormulaLemmas.{words-formula}
 use Rattle.flp_syntax.specs.Tree.{Program}
-use Rattle.flp_meaning.specs.Circuit.{calls_of, kind_of, answered}
+use Rattle.flp_meaning.specs.Meaning.{Meant, Results}
+use Rattle.flp_meaning.specs.MeaningLaws.{AnsweredIsDirect, call_values}
+use Rattle.flp_meaning.specs.Circuit.{calls_of, checks_of, kind_of, answered}
 use Rattle.flp_meaning.specs.Gadgets.{arity_of, degree_of, size_of}
 use Rattle.flp_meaning.specs.Lengths.{coefficient_count}
 use Rattle.flp_meaning.specs.Wires.{wires_of}
@@ -19,7 +23,7 @@ use Rattle.flp_meaning.specs.ProofLaws.{IsBounded}
 use Rattle.flp_meaning.proofs.WireLemmas.{formula_at_point}
 use Rattle.flp_query.specs.Rows.{HasRows, values_of_columns}
 use Rattle.flp_query.proofs.RowLemmas.{values-wires}
-use Rattle.flp_weak.specs.WeakWord.{gadget_lies}
+use Rattle.flp_weak.specs.WeakWord.{check_fails, gadget_lies}
 use Rattle.flp_weak.specs.Laws.{IsProof}
 use Rattle.flp_weak.proofs.RootLemmas.{AgreeAt, few_agree}
 use Rattle.flp_weak.proofs.LieLemmas.{length-polynomial, words-polynomial, length-formula_in, lies-differ, true-same}
@@ -110,3 +114,14 @@ module _ (body : Program) (x joint proof : List ℕ) (gadget : ℕ) where
       (other some).1
       (sym (value (other some).0)
       ∙ ap (λ (l : List ℕ). value_at l (other some).0) (sym equal ∙ sym same_poly)))
+
+-- ---- checks
+
+-- the check that was read, where the calls have their own values as answers, is that of the encoding
+pub check-tested : (body : Program) (x joint answers : List ℕ) (unit index value : ℕ) → AnsweredIsDirect → answers ≡ call_values body x joint → unit ≡ 1
+    → slice_get (checks_of body (answered x joint unit answers)) index ≡ Some value → check_fails body x joint index ≡ not (eqb value 0)
+check-tested body x joint answers unit index value own same_answers same_unit found =
+    ap (λ (n : ℕ). not (eqb n 0))
+    (ap (λ (meant : Meant Results). slice_index meant.value.checks index) (sym (own body x joint))
+    ∙ ap₂ (λ (a : List ℕ) (u : ℕ). slice_index (checks_of body (answered x joint u a)) index) (sym same_answers) (sym same_unit)
+    ∙ get_or_from_slice_get (checks_of body (answered x joint unit answers)) index value 0 found)
