@@ -1,5 +1,5 @@
 -- Which word is weak, and that it is accepted at few values.
-use Rattle.std.proofs.Common.{ℕ, ◌≡◌, ◌≢◌, ◌+◌, ◌-◌, ◌*◌, ◌<◌, ◌≤◌, Bool, true, false, cond, List, [], length, get_or, refl, ap, sym, subst, ◌∙◌, arith, ltb}
+use Rattle.std.proofs.Common.{ℕ, ◌≡◌, ◌≢◌, ◌+◌, ◌-◌, ◌*◌, ◌<◌, ◌≤◌, Bool, true, false, cond, List, [], length, get_or, refl, ap, sym, subst, ◌∙◌, arith, eqb, ltb}
 use Rattle.std.specs.Prelude.{not, slice_index, Option, None, Some, All}
 use Rattle.std.specs.Option.{unwrap_or}
 use Rattle.std.proofs.lemmas.Option.{none-some}
@@ -37,10 +37,20 @@ first_check : (body : Program) (x joint : List ℕ) (found : Option ℕ) → fai
 first_check body x joint found is =
     subst (IsFirst (check_fails body x joint) 0 (check_count body)) is (first_is_found (check_fails body x joint) 0 (check_count body))
 
+inside_check : (body : Program) (x joint : List ℕ) (number : ℕ) → failing_check body x joint ≡ Some number → number < check_count body
+inside_check body x joint number is =
+    let inside : number < 0 + check_count body = (first_check body x joint (Some number) is).1 in
+    omega arith
+
 first_gadget : (body : Program) (x joint proof : List ℕ) (found : Option ℕ) → lying_gadget body x joint proof ≡ found
     → IsFirst (gadget_lies body x joint proof) 0 (length body.gadgets) found
 first_gadget body x joint proof found is =
     subst (IsFirst (gadget_lies body x joint proof) 0 (length body.gadgets)) is (first_is_found (gadget_lies body x joint proof) 0 (length body.gadgets))
+
+inside_gadget : (body : Program) (x joint proof : List ℕ) (gadget : ℕ) → lying_gadget body x joint proof ≡ Some gadget → gadget < length body.gadgets
+inside_gadget body x joint proof gadget is =
+    let inside : gadget < 0 + length body.gadgets = (first_gadget body x joint proof (Some gadget) is).1 in
+    omega arith
 
 -- ---- validity
 
@@ -112,7 +122,7 @@ check-bounded : (body : Program) (x joint proof : List ℕ) (number : ℕ) (seve
 check-bounded body x joint proof number several is bounded good fails none =
     let first = first_check body x joint (Some number) fails in
     let by : Bounded body x joint proof (cond several number 0) (cond several 1 0) =
-    check-bounded_by body x joint proof number several is (none_lies-direct body x joint proof bounded good none) first.1
+    check-bounded_by body x joint proof number several is (none_lies-direct body x joint proof bounded good none) (inside_check body x joint number fails)
     (failing-not_zero body x joint number first.2) (checks_are_fixed body (direct body x joint)) in
     check_case body x joint proof number several is by
 
@@ -126,7 +136,7 @@ bounded_cases body x joint proof weak (Some number) None bounded good fails lies
 bounded_cases body x joint proof weak (Some number) (Some gadget) bounded good fails lies is =
     let first = first_gadget body x joint proof (Some gadget) lies in
     subst (λ (w : Weak). Bounded body x joint proof w.word w.bound) (same_weak (weak_point body gadget) weak is)
-    (lying-bounded body x joint proof gadget bounded good first.1 first.2)
+    (lying-bounded body x joint proof gadget bounded good (inside_gadget body x joint proof gadget lies) first.2)
 
 pub weak_is_bounded : (body : Program) → IsBounded body → WeakIsBounded body
 weak_is_bounded body bounded x joint proof weak good is =
@@ -167,9 +177,9 @@ low_cases : (body : Program) (x joint proof : List ℕ) (weak : Weak) (number ga
 low_cases body x joint proof weak None gadget some fails lies is = absurd (none-some weak is)
 low_cases body x joint proof weak (Some number) None some fails lies is =
     subst (IsLow body) (same_weak (weak_check body number) weak is)
-    (check-low body number (ltb 1 (check_count body)) refl some (first_check body x joint (Some number) fails).1)
+    (check-low body number (ltb 1 (check_count body)) refl some (inside_check body x joint number fails))
 low_cases body x joint proof weak (Some number) (Some gadget) some fails lies is =
-    subst (IsLow body) (same_weak (weak_point body gadget) weak is) (point-low body gadget (first_gadget body x joint proof (Some gadget) lies).1)
+    subst (IsLow body) (same_weak (weak_point body gadget) weak is) (point-low body gadget (inside_gadget body x joint proof gadget lies))
 
 pub bound_is_low : (body : Program) → IsBounded body → BoundIsLow body
 bound_is_low body bounded x joint proof weak is =
