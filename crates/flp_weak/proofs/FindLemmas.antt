@@ -1,8 +1,9 @@
 -- What is looked for: a gadget that lies, whose polynomial is compared with the gadget at the wires at as many points as there are coefficients, and a
 -- check that is not 0.
-use Rattle.std.proofs.Common.{ℕ, ◌≡◌, ◌≢◌, ◌+◌, ◌-◌, ◌*◌, ◌<◌, ◌≤◌, Bool, true, false, List, length, map, get_or, refl, ap, ap₂, sym, subst, ◌∙◌, eqb, arith}
+use Rattle.std.proofs.Common.{ℕ, ◌≡◌, ◌≢◌, ◌+◌, ◌-◌, ◌*◌, ◌^◌, ◌<◌, ◌≤◌, Bool, true, false, List, length, map, get_or, refl, ap, ap₂, sym, subst, ◌∙◌, eqb, arith, lit<}
 use Rattle.std.specs.Prelude.{AllPairs, Some, not, slice_index}
 use Rattle.std.specs.List.{range_with_len, slice_get}
+use Rattle.std.proofs.Math.Nat.{pow-le-pow_right}
 use Rattle.std.proofs.lemmas.Bool.{false≢true}
 use Rattle.std.proofs.lemmas.Nat.{mul-le}
 use Rattle.std.proofs.lemmas.Option.{get_or_from_slice_get}
@@ -29,9 +30,11 @@ use Rattle.flp_weak.proofs.RootLemmas.{AgreeAt, few_agree}
 use Rattle.flp_weak.proofs.LieLemmas.{length-polynomial, words-polynomial, length-formula_in, lies-differ, true-same}
 
 -- a gadget has at most 32,761 coefficients
-pub few-coefficients : (degree size : ℕ) → degree ≤ 8 → size ≤ 4096 → degree * (size - 1) + 1 ≤ 32761
-few-coefficients degree size low small =
-    let most : degree * (size - 1) ≤ 8 * 4095 = mul-le low (omega arith) in
+pub few-coefficients : (degree log : ℕ) → degree ≤ 8 → log ≤ 12 → degree * (2 ^ log - 1) + 1 ≤ 32761
+few-coefficients degree log low small =
+    let size : ℕ = 2 ^ log in
+    let points : 2 ^ log ≤ 4096 = pow-le-pow_right {n = 2} (lit< tt) small in
+    let most : degree * (size - 1) ≤ 8 * 4095 = mul-le degree (size - 1) 8 4095 low (omega arith) in
     omega arith
 
 numbers_differ : (n : ℕ) → AllPairs (λ s t. s ≢ t) (range_with_len 0 n)

@@ -1,6 +1,6 @@
 -- Which word is weak, and that it is accepted at few values.
 use Rattle.std.proofs.Common.{ℕ, ◌≡◌, ◌≢◌, ◌+◌, ◌-◌, ◌*◌, ◌<◌, ◌≤◌, Bool, true, false, cond, List, [], length, get_or, refl, ap, sym, subst, ◌∙◌, arith, eqb, ltb}
-use Rattle.std.specs.Prelude.{not, slice_index, Option, None, Some, All}
+use Rattle.std.specs.Prelude.{not, slice_index, Option, None, Some, IfSome, All}
 use Rattle.std.specs.Option.{unwrap_or}
 use Rattle.std.proofs.lemmas.Option.{none-some}
 use Rattle.std.proofs.lemmas.Bool.{false≢true, eqb-true, eq-eqb}
@@ -37,7 +37,7 @@ first_check : (body : Program) (x joint : List ℕ) (found : Option ℕ) → fai
 first_check body x joint found is =
     subst (IsFirst (check_fails body x joint) 0 (check_count body)) is (first_is_found (check_fails body x joint) 0 (check_count body))
 
-inside_check : (body : Program) (x joint : List ℕ) (number : ℕ) → failing_check body x joint ≡ Some number → number < check_count body
+pub inside_check : (body : Program) (x joint : List ℕ) (number : ℕ) → failing_check body x joint ≡ Some number → number < check_count body
 inside_check body x joint number is =
     let inside : number < 0 + check_count body = (first_check body x joint (Some number) is).1 in
     omega arith
@@ -47,7 +47,7 @@ first_gadget : (body : Program) (x joint proof : List ℕ) (found : Option ℕ) 
 first_gadget body x joint proof found is =
     subst (IsFirst (gadget_lies body x joint proof) 0 (length body.gadgets)) is (first_is_found (gadget_lies body x joint proof) 0 (length body.gadgets))
 
-inside_gadget : (body : Program) (x joint proof : List ℕ) (gadget : ℕ) → lying_gadget body x joint proof ≡ Some gadget → gadget < length body.gadgets
+pub inside_gadget : (body : Program) (x joint proof : List ℕ) (gadget : ℕ) → lying_gadget body x joint proof ≡ Some gadget → gadget < length body.gadgets
 inside_gadget body x joint proof gadget is =
     let inside : gadget < 0 + length body.gadgets = (first_gadget body x joint proof (Some gadget) is).1 in
     omega arith
@@ -141,6 +141,12 @@ bounded_cases body x joint proof weak (Some number) (Some gadget) bounded good f
 pub weak_is_bounded : (body : Program) → IsBounded body → WeakIsBounded body
 weak_is_bounded body bounded x joint proof weak good is =
     bounded_cases body x joint proof weak (failing_check body x joint) (lying_gadget body x joint proof) bounded good refl refl is
+
+-- of the weak word, where there is one
+pub bounded-answer : (body : Program) (x joint proof : List ℕ) (answer : Option Weak) → WeakIsBounded body → IsProof body proof
+    → answer ≡ weak_of body x joint proof → IfSome answer (λ (weak : Weak). Bounded body x joint proof weak.word weak.bound)
+bounded-answer body x joint proof None bounded good is = tt
+bounded-answer body x joint proof (Some weak) bounded good is = bounded x joint proof weak good (sym is)
 
 -- ---- how low the bound is
 

@@ -3,6 +3,7 @@ ghost use Rattle.std.specs.Prelude.{◌≡◌, ◌≢◌, ℕ, ◌*◌, ◌<◌,
 ghost use Rattle.flp_poly.specs.Polynomial.{value_at};
 ghost use Rattle.flp_ntt.specs.TransformSize.{IsTransformSize};
 ghost use Rattle.flp_gadget.specs.KindTree.{arity_of, value_of};
+ghost use Rattle.flp_meaning.specs.Gadgets.{size_of, arity_of as inputs_of};
 ghost use Rattle.flp_meaning.specs.Proof.{answers_in};
 ghost use Rattle.flp_plan.specs.Counted.{lengths_of};
 ghost use Rattle.flp_plan.specs.View.{publics_of};
@@ -66,21 +67,57 @@ fn gadget_lies(
     requires proof { length proof.now ≡ (lengths_of plan.now.circuit).proof }
     ensures { IfOk result (λ lies. (joint : List ℕ) → reading.now.publics.now ≡ publics_of plan.now joint → lies ≡ weak.gadget_lies plan.now.circuit reading.now.x.now joint proof.now gadget) }
 {
-    laws::is_within_limits(plan);
-    words::words(proof);
     let size = domain_size(plan, gadget);
     let arity = arity(plan, gadget);
     let mut rows = vec![in alloc; Fe::ZERO; size * arity]?;
     let mut room = vec![in alloc; Fe::ZERO; size]?;
     let mut inputs = vec![in alloc; Fe::ZERO; arity]?;
-    write_rows(plan, gadget, reading, seeds(plan, proof, gadget), &mut rows);
-    Ok(differs(
-        plan.kind(gadget),
-        &rows,
-        polynomial(plan, proof, gadget),
+    let lies = is_lying(
+        plan,
+        gadget,
+        reading,
+        proof,
+        &mut rows,
         &mut room,
         &mut inputs,
-    ))
+    );
+    Ok(lies)
+}
+
+/// Whether this gadget lies.
+///
+/// `rows` has a place for each wire at each point of the gadget's domain, `room` one for each point and `inputs`
+/// one for each wire. They hold anything afterwards.
+fn is_lying(
+    plan: &Plan,
+    gadget: u32,
+    reading: &Reading,
+    proof: &[Fe],
+    rows: &mut [Fe],
+    room: &mut [Fe],
+    inputs: &mut [Fe],
+) -> bool
+    requires gadget { gadget < length plan.now.circuit.gadgets }
+    requires publics { length reading.now.publics.now ≡ length plan.now.steps }
+    requires x { length reading.now.x.now ≡ plan.now.circuit.meas }
+    requires answers { reading.now.answers.now ≡ answers_in plan.now.circuit proof.now }
+    requires unit { reading.now.unit ≡ 1 }
+    requires proof { length proof.now ≡ (lengths_of plan.now.circuit).proof }
+    requires rows { length rows.old ≡ size_of plan.now.circuit gadget * inputs_of plan.now.circuit gadget }
+    requires room { length room.old ≡ size_of plan.now.circuit gadget }
+    requires inputs { length inputs.old ≡ inputs_of plan.now.circuit gadget }
+    ensures { (joint : List ℕ) → reading.now.publics.now ≡ publics_of plan.now joint → result ≡ weak.gadget_lies plan.now.circuit reading.now.x.now joint proof.now gadget }
+{
+    laws::is_within_limits(plan);
+    words::words(proof);
+    write_rows(plan, gadget, reading, seeds(plan, proof, gadget), rows);
+    differs(
+        plan.kind(gadget),
+        rows,
+        polynomial(plan, proof, gadget),
+        room,
+        inputs,
+    )
 }
 
 /// Whether the polynomial differs from the gadget at the wires that run through the columns of the rows. With as

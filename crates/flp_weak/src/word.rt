@@ -3,6 +3,7 @@ ghost use Rattle.std.specs.Prelude.{◌≡◌, ◌<◌, ◌↔◌, length, IfOk,
 ghost use Rattle.flp_meaning.specs.Circuit.{IsValid};
 ghost use Rattle.flp_meaning.specs.Gadgets.{check_count};
 ghost use Rattle.flp_plan.specs.Counted.{lengths_of};
+ghost use Rattle.flp_plan.specs.View.{publics_of};
 ghost use Rattle.flp_weak.specs.AtMost.{Bounded};
 ghost use Rattle.flp_weak.specs.WeakWord as weak;
 
@@ -53,10 +54,30 @@ pub fn weak_word(
     valid_has_none(plan);
     let mut publics = vec![in alloc; Fe::ZERO; plan.publics_len() as usize]?;
     plan.publics(joint, &mut publics);
-    let Some(check) = failing_check(alloc, plan, &publics, x, joint)? else {
+    let answer = weakest(alloc, plan, &publics, x, joint, proof)?;
+    Ok(answer)
+}
+
+/// The weak word, where `publics` is what the plan's public values are under the joint words.
+fn weakest(
+    alloc: Global,
+    plan: &Plan,
+    publics: &[Fe],
+    x: &[Fe],
+    joint: &[Fe],
+    proof: &[Fe],
+) -> Result<Option<Weak>, Memory>
+    requires publics { publics.now ≡ publics_of plan.now joint.now }
+    requires steps { length publics.now ≡ length plan.now.steps }
+    requires x { length x.now ≡ (lengths_of plan.now.circuit).meas }
+    requires joint { length joint.now ≡ (lengths_of plan.now.circuit).joint }
+    requires proof { length proof.now ≡ (lengths_of plan.now.circuit).proof }
+    ensures { IfOk result (λ answer. answer ≡ weak.weak_of plan.now.circuit x.now joint.now proof.now) }
+{
+    let Some(check) = failing_check(alloc, plan, publics, x, joint)? else {
         return Ok(None);
     };
-    match lying_gadget(alloc, plan, &publics, x, proof)? {
+    match lying_gadget(alloc, plan, publics, x, proof)? {
         Some(gadget) => Ok(Some(weak_point(plan, gadget))),
         None => Ok(Some(weak_check(plan, check))),
     }
