@@ -124,13 +124,7 @@ fn is_lying(
 /// many coefficients, it does where the values differ at one of as many points, the words from 0 on.
 ///
 /// `inputs` has a place for each wire and `room` for each row; both hold anything afterwards.
-fn differs(
-    kind: &Kind,
-    rows: &[Fe],
-    polynomial: &[Fe],
-    room: &mut [Fe],
-    inputs: &mut [Fe],
-) -> bool
+fn differs(kind: &Kind, rows: &[Fe], polynomial: &[Fe], room: &mut [Fe], inputs: &mut [Fe]) -> bool
     requires inputs { length inputs.old ≡ arity_of kind.now }
     requires size { IsTransformSize (length room.old) }
     requires rows { length rows.now ≡ length room.old * length inputs.old }

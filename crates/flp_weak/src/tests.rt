@@ -177,7 +177,10 @@ fn two_buckets(rt: HostRuntime) -> Result<(), Fail> {
     let proof = honest(alloc, &plan, &x, &joint, &words(alloc, &[1, 1, 1, 1])?)?;
     assert_eq!(rt; weak(alloc, &plan, &x, &joint, &proof)?, Some((1, 1)));
     let mut query = words(alloc, &[1, 1, 2])?;
-    assert_eq!(rt; accepted(alloc, &plan, &x, &joint, &proof, &mut query, 1)?, 1);
+    assert_eq!(rt;
+        accepted(alloc, &plan, &x, &joint, &proof, &mut query, 1)?,
+        1
+    );
     laws::valid_has_none(&plan);
     laws::counted_soundness(&plan);
     laws::few_choices(&plan);

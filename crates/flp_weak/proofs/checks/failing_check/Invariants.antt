@@ -1,4 +1,4 @@
-use Rattle.std.proofs.Common.{ℕ, ◌≡◌, ◌-◌}
+use Rattle.std.proofs.Common.{◌≡◌, ◌-◌}
 use Rattle.flp_meaning.specs.Gadgets.{first_where, check_count}
 use Rattle.flp_weak.specs.WeakWord.{check_fails, failing_check}
 use Rattle.flp_weak.proofs.checks.failing_check.Given as goal

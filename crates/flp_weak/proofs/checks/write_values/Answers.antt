@@ -1,4 +1,4 @@
-use Rattle.std.proofs.Common.{ℕ, ◌≡◌, ◌∙◌, List, ap}
+use Rattle.std.proofs.Common.{ℕ, ◌∙◌, List, ap}
 use Rattle.flp_meaning.specs.Proof.{answers_in}
 use Rattle.flp_weak.proofs.WeakLemmas.{bounded-from_limits}
 use Rattle.flp_weak.proofs.checks.write_values.Goals as goal

@@ -13,6 +13,16 @@ write_rows-requires-clause-answers c =
     ap (λ (l : List ℕ). length l) c.requires.answers
     ∙ length-map-range_with_len (answer_in c.args.plan.now.circuit c.args.proof.now) 0 (call_count c.args.plan.now.circuit)
 
+pub differs-requires-clause-few : goal.differs-requires-clause-few
+differs-requires-clause-few c =
+    let limits = c.is_within_limits.ensures.gadgets c.args.gadget c.requires.gadget in
+    let few : coefficient_count c.args.plan.now.circuit c.args.gadget ≤ 32761 =
+    few-coefficients (degree_of c.args.plan.now.circuit c.args.gadget) (log_of c.args.plan.now.circuit c.args.gadget) limits.low_degree limits.small_domain in
+    let size : length c.polynomial.result.now ≡ coefficient_count c.args.plan.now.circuit c.args.gadget =
+    ap (λ (l : List ℕ). length l) c.polynomial.ensures
+    ∙ length-polynomial c.args.plan.now.circuit c.args.proof.now c.args.gadget c.requires.gadget c.requires.proof in
+    omega arith
+
 pub returns : goal.returns
 returns c joint same =
     let limits = c.is_within_limits.ensures.gadgets c.args.gadget c.requires.gadget in
