@@ -10,7 +10,9 @@ use flp_plan::{Plan, laws};
 use flp_poly::eval;
 
 /// Writes the answers of a proof to the calls, one after another.
-pub(crate) fn write_answers(plan: &Plan, proof: &[Fe], answers: &mut [Fe])
+///
+/// `proof` has as many words as the plan's length `proof`, and `answers` a place for each call.
+pub fn write_answers(plan: &Plan, proof: &[Fe], answers: &mut [Fe])
     requires proof { length proof.now ≡ (lengths_of plan.now.circuit).proof }
     requires room { length answers.old ≡ call_count plan.now.circuit }
     ensures { answers.new ≡ answers_in plan.now.circuit proof.now }

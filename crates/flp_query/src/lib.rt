@@ -9,25 +9,28 @@
 //! 1/shares, sum up to the verifier of the summed report. That and the honest proof's acceptance are the
 //! contracts of the functions in [`laws`].
 //!
+//! What a crate needs that looks into a proof is open to it too: the answers of a proof ([`answers`]), the parts of
+//! a gadget ([`parts`]) and the values of its wires ([`wires`]), on what a [`reading`] holds.
+//!
 //! [`Scratch::new`] alone takes memory.
 //!
 //! Query and decision are those of the chapter "Fully Linear Proofs" of the VDAF draft of the IETF, after Boneh
 //! et al., "Zero-Knowledge Proofs on Secret-Shared Data via Fully Linear PCPs", CRYPTO 2019.
 #![tactic(auto)]
 
-mod answers;
+pub mod answers;
 mod checks;
 mod decision;
 mod domains;
 pub mod laws;
-mod parts;
-mod reading;
+pub mod parts;
+pub mod reading;
 mod rooms;
 mod scratch;
 mod sizes;
 mod unit;
 mod verifier;
-mod wires;
+pub mod wires;
 
 pub use decision::decide;
 pub use domains::InDomain;

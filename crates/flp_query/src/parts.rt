@@ -12,7 +12,7 @@ use flp_gadget::Gadget;
 use flp_plan::{Plan, laws};
 
 /// The number of points of a gadget's domain.
-pub(crate) fn domain_size(plan: &Plan, gadget: u32) -> usize
+pub fn domain_size(plan: &Plan, gadget: u32) -> usize
     requires { gadget < length plan.now.circuit.gadgets }
     ensures points { result ≡ size_of plan.now.circuit gadget }
     ensures few { result ≤ 4096 }
@@ -23,7 +23,7 @@ pub(crate) fn domain_size(plan: &Plan, gadget: u32) -> usize
 }
 
 /// The number of inputs of a gadget.
-pub(crate) fn arity(plan: &Plan, gadget: u32) -> usize
+pub fn arity(plan: &Plan, gadget: u32) -> usize
     requires { gadget < length plan.now.circuit.gadgets }
     ensures inputs { result ≡ arity_of plan.now.circuit gadget }
     ensures some { 1 ≤ result }
@@ -57,8 +57,8 @@ fn proof_start(plan: &Plan, gadget: u32) -> usize
     start
 }
 
-/// The seeds that a proof has for a gadget.
-pub(crate) fn seeds<'a>(plan: &Plan, proof: &'a [Fe], gadget: u32) -> &'a [Fe]
+/// The seeds that a proof, of as many words as the plan's length `proof`, has for a gadget, lowest input first.
+pub fn seeds<'a>(plan: &Plan, proof: &'a [Fe], gadget: u32) -> &'a [Fe]
     requires gadget { gadget < length plan.now.circuit.gadgets }
     requires proof { length proof.now ≡ (lengths_of plan.now.circuit).proof }
     ensures seeds { result.now ≡ seeds_in plan.now.circuit proof.now gadget }
@@ -68,8 +68,9 @@ pub(crate) fn seeds<'a>(plan: &Plan, proof: &'a [Fe], gadget: u32) -> &'a [Fe]
     &proof[start..start + arity(plan, gadget)]
 }
 
-/// The coefficients that a proof has for a gadget's polynomial.
-pub(crate) fn polynomial<'a>(plan: &Plan, proof: &'a [Fe], gadget: u32) -> &'a [Fe]
+/// The coefficients that a proof, of as many words as the plan's length `proof`, has for a gadget's polynomial,
+/// lowest first.
+pub fn polynomial<'a>(plan: &Plan, proof: &'a [Fe], gadget: u32) -> &'a [Fe]
     requires gadget { gadget < length plan.now.circuit.gadgets }
     requires proof { length proof.now ≡ (lengths_of plan.now.circuit).proof }
     ensures { result.now ≡ polynomial_in plan.now.circuit proof.now gadget }

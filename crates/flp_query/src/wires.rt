@@ -16,7 +16,9 @@ use flp_plan::{Plan, laws};
 use flp_poly::eval;
 
 /// Writes the rows of a gadget: its seeds, the inputs of each of its calls, and zeros at the points that are left.
-pub(crate) fn write_rows(plan: &Plan, gadget: u32, reading: &Reading, seeds: &[Fe], rows: &mut [Fe])
+///
+/// `seeds` has a word for each input, and `rows` a place for each input at each point of the domain.
+pub fn write_rows(plan: &Plan, gadget: u32, reading: &Reading, seeds: &[Fe], rows: &mut [Fe])
     requires gadget { gadget < length plan.now.circuit.gadgets }
     requires publics { length reading.now.publics.now ≡ length plan.now.steps }
     requires x { length reading.now.x.now ≡ plan.now.circuit.meas }
@@ -59,7 +61,7 @@ fn write_inputs(plan: &Plan, call: u32, reading: &Reading, row: &mut [Fe])
 /// Writes the values at a point of the wires whose values are the columns of these rows.
 ///
 /// `out` has a place for each wire, and `room`, as long as a column, holds anything afterwards.
-pub(crate) fn write_values(rows: &[Fe], point: Fe, room: &mut [Fe], out: &mut [Fe])
+pub fn write_values(rows: &[Fe], point: Fe, room: &mut [Fe], out: &mut [Fe])
     requires size { IsTransformSize (length room.old) }
     requires rows { length rows.now ≡ length room.old * length out.old }
     ensures { out.new ≡ values_of_columns (length room.old) (length out.old) rows.now point }

@@ -1,0 +1,15 @@
+-- The lemmas of counted soundness.
+-- counting different things
+pub mod CountLemmas
+-- points at which two polynomials agree
+pub mod RootLemmas
+-- gadgets that lie
+pub mod LieLemmas
+-- checks that fail, and the words that combine them
+pub mod CheckLemmas
+-- which word is weak
+pub mod WeakLemmas
+-- looking for a gadget that lies
+pub mod FindLemmas
+-- choices for several proofs
+pub mod ChoiceLemmas
