@@ -15,5 +15,7 @@ pub mod Forming
 pub mod Listing
 -- runs of public expressions, and products with one shared factor
 pub mod PlainRuns
+-- marks of parts
+pub mod Marking
 -- counts as far as they have come
 pub mod Counting

@@ -1,5 +1,5 @@
 -- What is left of a list, from its next element on.
-use Rattle.std.proofs.Common.{◌≡◌, ℕ, ◌+◌, ◌<◌, List, ◌∷◌, length, map, drop, get_or, refl, sym, ap, ◌∙◌, add-one, drop-cons}
+use Rattle.std.proofs.Common.{◌≡◌, ℕ, zero, suc, ◌+◌, ◌<◌, List, [], ◌∷◌, arith, length, map, drop, get_or, refl, sym, ap, ◌∙◌, add-one, drop-cons}
 use Rattle.std.proofs.lemmas.List.{get_or_default}
 use Rattle.flp_syntax.specs.Tree.{index_items, indices, index_item_on, index_on, items, trees, arguments, statements, item_on, tree_on, arg_on, stmt_on}
 use Rattle.flp_syntax.specs.View.{index_of, index_item_of, index_item_of_roll, tree_of, item_of, item_of_roll, arg_of, statement_of}
@@ -17,6 +17,12 @@ rest_next view xs i x h e = rw (add-one, drop-cons xs i x h, ← e) refl
 -- an element that is read is the one that is there
 pub same_read : {A : Type 0} (xs : List A) (i : ℕ) (x y : A) → i < length xs → x ≡ get_or xs i x → y ≡ get_or xs i y → x ≡ y
 same_read xs i x y h e f = e ∙ get_or_default xs i x y h ∙ sym f
+
+-- an element that is there
+pub element : {A : Type 0} (xs : List A) (i : ℕ) → i < length xs → (x : A) × (x ≡ get_or xs i x)
+element [] i h = absurd (omega arith)
+element (x ∷ xs) zero h = (x, refl)
+element (x ∷ xs) (suc i) h = element xs i (omega arith)
 
 pub rest_items : (xs : List Item) (i : ℕ) (x : Item) → i < length xs → x ≡ get_or xs i x
     → items (map item_of (drop i xs)) ≡ item_on x.minus (tree_of x.expr) (items (map item_of (drop (i + 1) xs)))

@@ -12,3 +12,5 @@ pub mod Standing
 pub mod Emitting
 -- counts of 64 bits
 pub mod Counts
+-- the sorts of the parts of a circuit
+pub mod Marks

@@ -7,6 +7,7 @@ ghost use Rattle.flp_emit.specs.Code.{Tied};
 use crate::Memory;
 use crate::code::Code;
 use crate::made::{Done, Made};
+use crate::marks::marks_of_statements;
 use crate::stmt::perform;
 use flp_forms::{Forms, Steps};
 use flp_list::List;
@@ -21,6 +22,8 @@ pub fn emit(alloc: Global, body: &Body) -> Result<Code, Memory>
     requires { ProgramFits (program_of body.now) }
     ensures { IfOk result (λ code. Tied (program_of body.now) code) }
 {
+    let stmts = body.stmts.as_slice();
+    let marks = marks_of_statements(alloc, stmts)?;
     let mut made = Made {
         steps: Steps::new(alloc, body.joint as u32)?,
         calls: Vec::new(alloc),
@@ -30,14 +33,7 @@ pub fn emit(alloc: Global, body: &Body) -> Result<Code, Memory>
         checks: Forms::new(alloc),
         outs: Forms::new(alloc),
     };
-    perform(
-        alloc,
-        body,
-        &[],
-        &mut made,
-        &mut done,
-        body.stmts.as_slice(),
-    )?;
+    perform(alloc, body, &[], &marks, &mut made, &mut done, stmts)?;
     let Made {
         steps,
         calls,

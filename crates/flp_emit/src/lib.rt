@@ -14,6 +14,7 @@ mod body;
 mod code;
 mod index;
 mod made;
+mod marks;
 mod public;
 mod scope;
 mod shared;

@@ -9,12 +9,13 @@ ghost use Rattle.flp_emit.specs.Fitting.{TreeFits, ItemsFit, FactorsFit};
 ghost use Rattle.flp_emit.specs.Scopes.{scope_of};
 ghost use Rattle.flp_forms.specs.LinearForms.{ScaleFits};
 ghost use Rattle.flp_emit.specs.Emitting.{public_part, public_parts, ScalesRun};
+ghost use Rattle.flp_emit.specs.Marks.{BeginWith, factor_marks, marks_of};
 ghost use Rattle.flp_emit.specs.Standing.{Makes};
 
 use crate::Memory;
 use crate::index::{index_value, turns_of};
+use crate::marks::{Mark, behind_first, first_is_shared};
 use crate::scope::{Bound, Turns, bound_value, inside};
-use crate::sorts::is_shared;
 use crate::value::{added, constant, multiplied, number, raised, scaled, settled, with_sign};
 use flp_field::Fe;
 use flp_forms::{Scale, Steps};
@@ -142,6 +143,7 @@ pub(crate) fn public_scale<'a>(
     alloc: Global,
     body: &Body,
     scope: &[Bound<'a>],
+    marks: &[Mark],
     steps: &mut Steps,
     scale: Scale,
     factors: &'a [Expr],
@@ -149,11 +151,14 @@ pub(crate) fn public_scale<'a>(
     requires joint { steps.old.joint ≡ body.now.joint }
     requires fits { FactorsFit (program_of body.now) (scope_of scope.now) (trees (map tree_of factors.now)) }
     requires scale { ScaleFits (length steps.old.steps) scale }
+    requires marks { BeginWith marks.now (factor_marks (trees (map tree_of factors.now))) }
     ensures { IfOk result (λ after. ScalesRun steps.old steps.new scale after (λ reading. product (public_parts (program_of body.now).gadgets reading (scope_of scope.now) (trees (map tree_of factors.entry.now))))) }
 {
+    let mut left = marks;
     let mut all = scale;
     for factor in factors {
-        all = public_factor(alloc, body, scope, steps, all, factor)?;
+        all = public_factor(alloc, body, scope, left, steps, all, factor)?;
+        left = behind_first(left);
     }
     Ok(all)
 }
@@ -163,6 +168,7 @@ fn public_factor<'a>(
     alloc: Global,
     body: &Body,
     scope: &[Bound<'a>],
+    marks: &[Mark],
     steps: &mut Steps,
     scale: Scale,
     factor: &'a Expr,
@@ -170,9 +176,10 @@ fn public_factor<'a>(
     requires joint { steps.old.joint ≡ body.now.joint }
     requires fits { TreeFits (program_of body.now) (scope_of scope.now) (tree_of factor.now) }
     requires scale { ScaleFits (length steps.old.steps) scale }
+    requires marks { BeginWith marks.now (marks_of (tree_of factor.now)) }
     ensures { IfOk result (λ after. ScalesRun steps.old steps.new scale after (λ reading. public_part (program_of body.now).gadgets reading (scope_of scope.now) (tree_of factor.now))) }
 {
-    if is_shared(factor) {
+    if first_is_shared(marks) {
         Ok(scale)
     } else {
         let step = public_step(alloc, body, scope, steps, factor)?;

@@ -9,15 +9,17 @@ ghost use Rattle.flp_meaning.specs.Meaning.{meaning, counted, called, items_of, 
 ghost use Rattle.flp_forms.specs.LinearForms.{ScaleFits};
 ghost use Rattle.flp_emit.specs.Fitting.{TreeFits, ItemsFit, FactorsFit, IsLinear, ArgumentFits, ArgumentsFit};
 ghost use Rattle.flp_emit.specs.Scopes.{scope_of};
+ghost use Rattle.flp_emit.specs.Marks.{BeginWith, marks_of, item_marks, factor_marks, marks_of_argument, argument_marks};
 ghost use Rattle.flp_emit.specs.Code.{read_by};
 ghost use Rattle.flp_emit.specs.Emitting.{IsReady, Emitted, Listed};
 
 use crate::Memory;
 use crate::index::{index_value, turns_of};
 use crate::made::{Made, append_call};
+use crate::marks::{Mark, behind_first, first_is_shared, inside_first};
 use crate::public::{public_scale, public_step};
 use crate::scope::{Bound, Turns, gadget_number, inside};
-use crate::sorts::{is_shared, shared_place};
+use crate::sorts::shared_place;
 use crate::value::{scale_with_sign, scaled};
 use flp_forms::{Forms, Scale, Source, Term};
 use flp_syntax::{Arg, Body, Expr, Item};
@@ -30,6 +32,7 @@ pub(crate) fn shared_terms<'a>(
     alloc: Global,
     body: &Body,
     scope: &[Bound<'a>],
+    marks: &[Mark],
     made: &mut Made,
     form: &mut Vec<Term>,
     scale: Scale,
@@ -39,8 +42,10 @@ pub(crate) fn shared_terms<'a>(
     requires shared { is_shared (tree_of expr.now) ≡ true }
     requires fits { TreeFits (program_of body.now) (scope_of scope.now) (tree_of expr.now) }
     requires scale { ScaleFits (length made.old.steps.steps) scale }
+    requires marks { BeginWith marks.now (marks_of (tree_of expr.now)) }
     ensures { IfOk result (λ _. Emitted body.now.meas scale made.old made.new form.old.items form.new.items (λ joint share. meaning (program_of body.now).gadgets (read_by joint share) (scope_of scope.now) (tree_of expr.now))) }
 {
+    let within = inside_first(marks);
     match expr {
         Expr::Meas { index, .. } => {
             let word = index_value(scope, index);
@@ -63,18 +68,36 @@ pub(crate) fn shared_terms<'a>(
             ..
         } => {
             let over = turns_of(scope, name, from, to);
-            shared_turns(alloc, body, scope, made, form, scale, over, inner)
+            shared_turns(alloc, body, scope, within, made, form, scale, over, inner)
         }
         Expr::Call { name, args, .. } => {
             let gadget = gadget_number(body.gadgets.as_slice(), name.as_slice());
             let args = args.as_slice();
-            shared_call(alloc, body, scope, made, form, scale, gadget, args)
+            shared_call(alloc, body, scope, within, made, form, scale, gadget, args)
         }
         Expr::Add { items, .. } => {
-            shared_sum(alloc, body, scope, made, form, scale, items.as_slice())
+            shared_sum(
+                alloc,
+                body,
+                scope,
+                within,
+                made,
+                form,
+                scale,
+                items.as_slice(),
+            )
         }
         Expr::Mul { factors, .. } => {
-            shared_product(alloc, body, scope, made, form, scale, factors.as_slice())
+            shared_product(
+                alloc,
+                body,
+                scope,
+                within,
+                made,
+                form,
+                scale,
+                factors.as_slice(),
+            )
         }
         Expr::Number { .. } | Expr::Var { .. } | Expr::Joint { .. } | Expr::Pow { .. } => {
             unreachable!()
@@ -96,6 +119,7 @@ pub(crate) fn counted_terms<'a>(
     alloc: Global,
     body: &Body,
     scope: &[Bound<'a>],
+    marks: &[Mark],
     made: &mut Made,
     form: &mut Vec<Term>,
     scale: Scale,
@@ -104,10 +128,11 @@ pub(crate) fn counted_terms<'a>(
     requires ready { IsReady (program_of body.now) made.old }
     requires fits { TreeFits (program_of body.now) (scope_of scope.now) (tree_of expr.now) }
     requires scale { ScaleFits (length made.old.steps.steps) scale }
+    requires marks { BeginWith marks.now (marks_of (tree_of expr.now)) }
     ensures { IfOk result (λ _. Emitted body.now.meas scale made.old made.new form.old.items form.new.items (λ joint share. counted (read_by joint share) (is_shared (tree_of expr.now)) (meaning (program_of body.now).gadgets (read_by joint share) (scope_of scope.now) (tree_of expr.now)))) }
 {
-    if is_shared(expr) {
-        shared_terms(alloc, body, scope, made, form, scale, expr)?;
+    if first_is_shared(marks) {
+        shared_terms(alloc, body, scope, marks, made, form, scale, expr)?;
         Ok(())
     } else {
         let step = public_step(alloc, body, scope, &mut made.steps, expr)?;
@@ -123,6 +148,7 @@ fn shared_turns<'a>(
     alloc: Global,
     body: &Body,
     scope: &[Bound<'a>],
+    marks: &[Mark],
     made: &mut Made,
     form: &mut Vec<Term>,
     scale: Scale,
@@ -133,11 +159,12 @@ fn shared_turns<'a>(
     requires shared { is_shared (tree_of inner.now) ≡ true }
     requires fits { (turn : ℕ) → over.from ≤ turn → turn < over.to → TreeFits (program_of body.now) (inside (scope_of scope.now) over.name.now turn) (tree_of inner.now) }
     requires scale { ScaleFits (length made.old.steps.steps) scale }
+    requires marks { BeginWith marks.now (marks_of (tree_of inner.now)) }
     ensures { IfOk result (λ _. Emitted body.now.meas scale made.old made.new form.old.items form.new.items (λ joint share. total (map (λ turn. meaning (program_of body.now).gadgets (read_by joint share) (inside (scope_of scope.now) over.entry.name.now turn) (tree_of inner.now)) (turns over.entry.from over.entry.to)))) }
 {
     for turn in over.from..over.to {
         let within = inside(alloc, scope, over.name, turn)?;
-        shared_terms(alloc, body, &within, made, form, scale, inner)?;
+        shared_terms(alloc, body, &within, marks, made, form, scale, inner)?;
     }
     Ok(())
 }
@@ -148,6 +175,7 @@ fn shared_sum<'a>(
     alloc: Global,
     body: &Body,
     scope: &[Bound<'a>],
+    marks: &[Mark],
     made: &mut Made,
     form: &mut Vec<Term>,
     scale: Scale,
@@ -156,11 +184,14 @@ fn shared_sum<'a>(
     requires ready { IsReady (program_of body.now) made.old }
     requires fits { ItemsFit (program_of body.now) (scope_of scope.now) (items (map item_of list.now)) }
     requires scale { ScaleFits (length made.old.steps.steps) scale }
+    requires marks { BeginWith marks.now (item_marks (items (map item_of list.now))) }
     ensures { IfOk result (λ _. Emitted body.now.meas scale made.old made.new form.old.items form.new.items (λ joint share. total (items_of (program_of body.now).gadgets (read_by joint share) (scope_of scope.now) true (items (map item_of list.entry.now))))) }
 {
+    let mut left = marks;
     for item in list {
         let signed = scale_with_sign(&mut made.steps, item.minus, scale)?;
-        counted_terms(alloc, body, scope, made, form, signed, &item.expr)?;
+        counted_terms(alloc, body, scope, left, made, form, signed, &item.expr)?;
+        left = behind_first(left);
     }
     Ok(())
 }
@@ -171,6 +202,7 @@ fn shared_product<'a>(
     alloc: Global,
     body: &Body,
     scope: &[Bound<'a>],
+    marks: &[Mark],
     made: &mut Made,
     form: &mut Vec<Term>,
     scale: Scale,
@@ -181,11 +213,13 @@ fn shared_product<'a>(
     requires linear { IsLinear (trees (map tree_of factors.now)) }
     requires fits { FactorsFit (program_of body.now) (scope_of scope.now) (trees (map tree_of factors.now)) }
     requires scale { ScaleFits (length made.old.steps.steps) scale }
+    requires marks { BeginWith marks.now (factor_marks (trees (map tree_of factors.now))) }
     ensures { IfOk result (λ _. Emitted body.now.meas scale made.old made.new form.old.items form.new.items (λ joint share. product (factors_of (program_of body.now).gadgets (read_by joint share) (scope_of scope.now) (trees (map tree_of factors.entry.now))))) }
 {
-    let all = public_scale(alloc, body, scope, &mut made.steps, scale, factors)?;
-    let factor = &factors[shared_place(factors)];
-    shared_terms(alloc, body, scope, made, form, all, factor)?;
+    let all = public_scale(alloc, body, scope, marks, &mut made.steps, scale, factors)?;
+    let (place, left) = shared_place(factors, marks);
+    let factor = &factors[place];
+    shared_terms(alloc, body, scope, left, made, form, all, factor)?;
     Ok(())
 }
 
@@ -195,6 +229,7 @@ fn shared_call<'a>(
     alloc: Global,
     body: &Body,
     scope: &[Bound<'a>],
+    marks: &[Mark],
     made: &mut Made,
     form: &mut Vec<Term>,
     scale: Scale,
@@ -204,10 +239,11 @@ fn shared_call<'a>(
     requires ready { IsReady (program_of body.now) made.old }
     requires fits { ArgumentsFit (program_of body.now) (scope_of scope.now) (arguments (map arg_of args.now)) }
     requires scale { ScaleFits (length made.old.steps.steps) scale }
+    requires marks { BeginWith marks.now (argument_marks (arguments (map arg_of args.now))) }
     ensures { IfOk result (λ _. Emitted body.now.meas scale made.old made.new form.old.items form.new.items (λ joint share. called (read_by joint share) gadget (listed (arguments_of (program_of body.now).gadgets (read_by joint share) (scope_of scope.now) (arguments (map arg_of args.entry.now)))))) }
 {
     let mut inputs = Forms::new(alloc);
-    list_arguments(alloc, body, scope, made, &mut inputs, args)?;
+    list_arguments(alloc, body, scope, marks, made, &mut inputs, args)?;
     let number = append_call(made, gadget, &inputs)?;
     add_term(form, scale, Source::Answer(number))?;
     Ok(())
@@ -219,16 +255,20 @@ fn list_arguments<'a>(
     alloc: Global,
     body: &Body,
     scope: &[Bound<'a>],
+    marks: &[Mark],
     made: &mut Made,
     inputs: &mut Forms,
     args: &'a [Arg],
 ) -> Result<(), Memory>
     requires ready { IsReady (program_of body.now) made.old }
     requires fits { ArgumentsFit (program_of body.now) (scope_of scope.now) (arguments (map arg_of args.now)) }
+    requires marks { BeginWith marks.now (argument_marks (arguments (map arg_of args.now))) }
     ensures { IfOk result (λ _. Listed body.now.meas made.old made.new inputs.old inputs.new (λ joint share. listed (arguments_of (program_of body.now).gadgets (read_by joint share) (scope_of scope.now) (arguments (map arg_of args.entry.now))))) }
 {
+    let mut left = marks;
     for arg in args {
-        list_argument(alloc, body, scope, made, inputs, arg)?;
+        list_argument(alloc, body, scope, left, made, inputs, arg)?;
+        left = behind_first(left);
     }
     Ok(())
 }
@@ -240,18 +280,20 @@ fn list_argument<'a>(
     alloc: Global,
     body: &Body,
     scope: &[Bound<'a>],
+    marks: &[Mark],
     made: &mut Made,
     inputs: &mut Forms,
     arg: &'a Arg,
 ) -> Result<(), Memory>
     requires ready { IsReady (program_of body.now) made.old }
     requires fits { ArgumentFits (program_of body.now) (scope_of scope.now) (arg_of arg.now) }
+    requires marks { BeginWith marks.now (marks_of_argument (arg_of arg.now)) }
     ensures { IfOk result (λ _. Listed body.now.meas made.old made.new inputs.old inputs.new (λ joint share. argument_of (program_of body.now).gadgets (read_by joint share) (scope_of scope.now) (arg_of arg.now))) }
 {
     match arg {
         Arg::One(expr) => {
             let mut form = Vec::new(alloc);
-            counted_terms(alloc, body, scope, made, &mut form, Scale::One, expr)?;
+            counted_terms(alloc, body, scope, marks, made, &mut form, Scale::One, expr)?;
             inputs.push(&form)?;
             Ok(())
         }
@@ -262,8 +304,18 @@ fn list_argument<'a>(
             inner,
             ..
         } => {
+            let within = inside_first(marks);
             let over = turns_of(scope, name, from, to);
-            list_turns(alloc, body, scope, made, inputs, over, inner.as_slice())
+            list_turns(
+                alloc,
+                body,
+                scope,
+                within,
+                made,
+                inputs,
+                over,
+                inner.as_slice(),
+            )
         }
     }
 }
@@ -274,6 +326,7 @@ fn list_turns<'a>(
     alloc: Global,
     body: &Body,
     scope: &[Bound<'a>],
+    marks: &[Mark],
     made: &mut Made,
     inputs: &mut Forms,
     over: Turns<'a>,
@@ -281,11 +334,12 @@ fn list_turns<'a>(
 ) -> Result<(), Memory>
     requires ready { IsReady (program_of body.now) made.old }
     requires fits { (turn : ℕ) → over.from ≤ turn → turn < over.to → ArgumentsFit (program_of body.now) (inside (scope_of scope.now) over.name.now turn) (arguments (map arg_of inner.now)) }
+    requires marks { BeginWith marks.now (argument_marks (arguments (map arg_of inner.now))) }
     ensures { IfOk result (λ _. Listed body.now.meas made.old made.new inputs.old inputs.new (λ joint share. listed (map (λ turn. listed (arguments_of (program_of body.now).gadgets (read_by joint share) (inside (scope_of scope.now) over.entry.name.now turn) (arguments (map arg_of inner.entry.now)))) (turns over.entry.from over.entry.to)))) }
 {
     for turn in over.from..over.to {
         let within = inside(alloc, scope, over.name, turn)?;
-        list_arguments(alloc, body, &within, made, inputs, inner)?;
+        list_arguments(alloc, body, &within, marks, made, inputs, inner)?;
     }
     Ok(())
 }

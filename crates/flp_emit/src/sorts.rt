@@ -5,8 +5,10 @@ ghost use Rattle.flp_syntax.specs.Tree.{items, trees};
 ghost use Rattle.flp_syntax.specs.Sorts.{is_shared, has_shared_item, has_shared};
 ghost use Rattle.flp_syntax.specs.View.{tree_of, item_of};
 ghost use Rattle.flp_emit.specs.Fitting.{IsLinear};
+ghost use Rattle.flp_emit.specs.Marks.{BeginWith, factor_marks, marks_of};
 ghost use Rattle.flp_emit.specs.Emitting.{IsOneShared};
 
+use crate::marks::{Mark, behind_first, first_is_shared};
 use flp_syntax::{Expr, Item};
 
 /// Whether an expression reads words of the encoding or answers of gadgets.
@@ -53,17 +55,21 @@ pub(crate) fn has_shared(factors: &[Expr]) -> bool
     false
 }
 
-/// The place of the one shared factor of a product.
-pub(crate) fn shared_place(factors: &[Expr]) -> usize
+/// The place of the one shared factor of a product, and the marks from its own on.
+pub(crate) fn shared_place<'a>(factors: &[Expr], marks: &'a [Mark]) -> (usize, &'a [Mark])
     requires shared { has_shared (trees (map tree_of factors.now)) ≡ true }
     requires linear { IsLinear (trees (map tree_of factors.now)) }
-    ensures within { result < length factors.now }
-    ensures one { (factor : tree.Expr) → factor ≡ slice_index_or factors.now result factor → IsOneShared (tree_of factor) (trees (map tree_of factors.now)) }
+    requires marks { BeginWith marks.now (factor_marks (trees (map tree_of factors.now))) }
+    ensures within { result.0 < length factors.now }
+    ensures one { (factor : tree.Expr) → factor ≡ slice_index_or factors.now result.0 factor → IsOneShared (tree_of factor) (trees (map tree_of factors.now)) }
+    ensures marks { (factor : tree.Expr) → factor ≡ slice_index_or factors.now result.0 factor → BeginWith result.1.now (marks_of (tree_of factor)) }
 {
-    for (place, factor) in factors.iter().enumerate() {
-        if is_shared(factor) {
-            return place;
+    let mut left = marks;
+    for place in 0..factors.len() {
+        if first_is_shared(left) {
+            return (place, left);
         }
+        left = behind_first(left);
     }
     unreachable!()
 }

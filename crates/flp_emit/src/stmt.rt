@@ -8,12 +8,14 @@ ghost use Rattle.flp_syntax.specs.View as view;
 ghost use Rattle.flp_meaning.specs.Meaning.{meaning, counted, changed, one_check, one_out, performed, statement_of, statements_of};
 ghost use Rattle.flp_emit.specs.Fitting.{TreeFits, ReadsWords, StatementFits, StatementsFit};
 ghost use Rattle.flp_emit.specs.Scopes.{scope_of};
+ghost use Rattle.flp_emit.specs.Marks.{BeginWith, marks_of, marks_of_statement, statement_marks};
 ghost use Rattle.flp_emit.specs.Code.{read_by};
 ghost use Rattle.flp_emit.specs.Emitting.{IsReady, Performed};
 
 use crate::Memory;
 use crate::index::turns_of;
 use crate::made::{Done, Made};
+use crate::marks::{Mark, behind_first, inside_first};
 use crate::scope::{Bound, Turns, inside};
 use crate::shared::{counted_terms, shared_terms};
 use flp_forms::Scale;
@@ -26,16 +28,20 @@ pub(crate) fn perform<'a>(
     alloc: Global,
     body: &Body,
     scope: &[Bound<'a>],
+    marks: &[Mark],
     made: &mut Made,
     done: &mut Done,
     stmts: &'a [Stmt],
 ) -> Result<(), Memory>
     requires ready { IsReady (program_of body.now) made.old }
     requires fits { StatementsFit (program_of body.now) (scope_of scope.now) (statements (map view.statement_of stmts.now)) }
+    requires marks { BeginWith marks.now (statement_marks (statements (map view.statement_of stmts.now))) }
     ensures { IfOk result (λ _. Performed body.now.meas made.old made.new done.old done.new (λ joint share. performed (statements_of (program_of body.now).gadgets (read_by joint share) (scope_of scope.now) (statements (map view.statement_of stmts.entry.now))))) }
 {
+    let mut left = marks;
     for stmt in stmts {
-        perform_one(alloc, body, scope, made, done, stmt)?;
+        perform_one(alloc, body, scope, left, made, done, stmt)?;
+        left = behind_first(left);
     }
     Ok(())
 }
@@ -47,17 +53,19 @@ fn perform_one<'a>(
     alloc: Global,
     body: &Body,
     scope: &[Bound<'a>],
+    marks: &[Mark],
     made: &mut Made,
     done: &mut Done,
     stmt: &'a Stmt,
 ) -> Result<(), Memory>
     requires ready { IsReady (program_of body.now) made.old }
     requires fits { StatementFits (program_of body.now) (scope_of scope.now) (view.statement_of stmt.now) }
+    requires marks { BeginWith marks.now (marks_of_statement (view.statement_of stmt.now)) }
     ensures { IfOk result (λ _. Performed body.now.meas made.old made.new done.old done.new (λ joint share. statement_of (program_of body.now).gadgets (read_by joint share) (scope_of scope.now) (view.statement_of stmt.now))) }
 {
     match stmt {
-        Stmt::Check { expr, .. } => perform_check(alloc, body, scope, made, done, expr),
-        Stmt::Out { expr, .. } => perform_out(alloc, body, scope, made, done, expr),
+        Stmt::Check { expr, .. } => perform_check(alloc, body, scope, marks, made, done, expr),
+        Stmt::Out { expr, .. } => perform_out(alloc, body, scope, marks, made, done, expr),
         Stmt::Each {
             name,
             from,
@@ -65,8 +73,18 @@ fn perform_one<'a>(
             inner,
             ..
         } => {
+            let within = inside_first(marks);
             let over = turns_of(scope, name, from, to);
-            perform_turns(alloc, body, scope, made, done, over, inner.as_slice())
+            perform_turns(
+                alloc,
+                body,
+                scope,
+                within,
+                made,
+                done,
+                over,
+                inner.as_slice(),
+            )
         }
     }
 }
@@ -77,6 +95,7 @@ fn perform_turns<'a>(
     alloc: Global,
     body: &Body,
     scope: &[Bound<'a>],
+    marks: &[Mark],
     made: &mut Made,
     done: &mut Done,
     over: Turns<'a>,
@@ -84,11 +103,12 @@ fn perform_turns<'a>(
 ) -> Result<(), Memory>
     requires ready { IsReady (program_of body.now) made.old }
     requires fits { (turn : ℕ) → over.from ≤ turn → turn < over.to → StatementsFit (program_of body.now) (inside (scope_of scope.now) over.name.now turn) (statements (map view.statement_of inner.now)) }
+    requires marks { BeginWith marks.now (statement_marks (statements (map view.statement_of inner.now))) }
     ensures { IfOk result (λ _. Performed body.now.meas made.old made.new done.old done.new (λ joint share. performed (map (λ turn. performed (statements_of (program_of body.now).gadgets (read_by joint share) (inside (scope_of scope.now) over.entry.name.now turn) (statements (map view.statement_of inner.entry.now)))) (turns over.entry.from over.entry.to)))) }
 {
     for turn in over.from..over.to {
         let within = inside(alloc, scope, over.name, turn)?;
-        perform(alloc, body, &within, made, done, inner)?;
+        perform(alloc, body, &within, marks, made, done, inner)?;
     }
     Ok(())
 }
@@ -98,16 +118,18 @@ fn perform_check<'a>(
     alloc: Global,
     body: &Body,
     scope: &[Bound<'a>],
+    marks: &[Mark],
     made: &mut Made,
     done: &mut Done,
     expr: &'a Expr,
 ) -> Result<(), Memory>
     requires ready { IsReady (program_of body.now) made.old }
     requires fits { TreeFits (program_of body.now) (scope_of scope.now) (tree_of expr.now) }
+    requires marks { BeginWith marks.now (marks_of (tree_of expr.now)) }
     ensures { IfOk result (λ _. Performed body.now.meas made.old made.new done.old done.new (λ joint share. changed one_check (counted (read_by joint share) (is_shared (tree_of expr.now)) (meaning (program_of body.now).gadgets (read_by joint share) (scope_of scope.now) (tree_of expr.now))))) }
 {
     let mut form = Vec::new(alloc);
-    counted_terms(alloc, body, scope, made, &mut form, Scale::One, expr)?;
+    counted_terms(alloc, body, scope, marks, made, &mut form, Scale::One, expr)?;
     done.checks.push(&form)?;
     Ok(())
 }
@@ -117,6 +139,7 @@ fn perform_out<'a>(
     alloc: Global,
     body: &Body,
     scope: &[Bound<'a>],
+    marks: &[Mark],
     made: &mut Made,
     done: &mut Done,
     expr: &'a Expr,
@@ -125,10 +148,11 @@ fn perform_out<'a>(
     requires fits { TreeFits (program_of body.now) (scope_of scope.now) (tree_of expr.now) }
     requires shared { is_shared (tree_of expr.now) ≡ true }
     requires words { ReadsWords (tree_of expr.now) }
+    requires marks { BeginWith marks.now (marks_of (tree_of expr.now)) }
     ensures { IfOk result (λ _. Performed body.now.meas made.old made.new done.old done.new (λ joint share. changed one_out (meaning (program_of body.now).gadgets (read_by joint share) (scope_of scope.now) (tree_of expr.now)))) }
 {
     let mut form = Vec::new(alloc);
-    shared_terms(alloc, body, scope, made, &mut form, Scale::One, expr)?;
+    shared_terms(alloc, body, scope, marks, made, &mut form, Scale::One, expr)?;
     done.outs.push(&form)?;
     Ok(())
 }

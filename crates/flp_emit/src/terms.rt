@@ -10,12 +10,13 @@ ghost use Rattle.flp_syntax.specs.View as view;
 ghost use Rattle.flp_meaning.specs.Terms.{form_terms, item_terms, shared_factor_terms, input_terms, input_terms_of_items, input_terms_of_factors, terms_of_argument, terms_of_arguments, statement_terms, terms_of_statements, term_count};
 ghost use Rattle.flp_emit.specs.Fitting.{TreeFits, ItemsFit, FactorsFit, ArgumentFits, ArgumentsFit, StatementFits, StatementsFit, ProgramFits};
 ghost use Rattle.flp_emit.specs.Scopes.{scope_of};
+ghost use Rattle.flp_emit.specs.Marks.{BeginWith, marked, marks_of, item_marks, factor_marks, marks_of_argument, argument_marks, marks_of_statement, statement_marks};
 ghost use Rattle.flp_emit.specs.Counts.{capped};
 
 use crate::Memory;
 use crate::index::index_value;
+use crate::marks::{Mark, behind_first, first_is_shared, inside_first, marks_of_statements};
 use crate::scope::{Bound, Turns, inside};
-use crate::sorts::{has_shared, has_shared_item, is_shared};
 use flp_syntax::{Arg, Body, Expr, Item, Stmt};
 use std::alloc::Global;
 
@@ -26,7 +27,9 @@ pub fn term_count(alloc: Global, body: &Body) -> Result<u64, Memory>
     requires { ProgramFits (program_of body.now) }
     ensures { IfOk result (λ count. count ≡ capped (term_count (program_of body.now))) }
 {
-    let count = terms_of_statements(alloc, body, &[], body.stmts.as_slice())?;
+    let stmts = body.stmts.as_slice();
+    let marks = marks_of_statements(alloc, stmts)?;
+    let count = terms_of_statements(alloc, body, &[], &marks, stmts)?;
     Ok(count)
 }
 
@@ -39,9 +42,11 @@ fn form_terms<'a>(
     alloc: Global,
     body: &Body,
     scope: &[Bound<'a>],
+    marks: &[Mark],
     expr: &'a Expr,
 ) -> Result<u64, Memory>
-    requires { TreeFits (program_of body.now) (scope_of scope.now) (tree_of expr.now) }
+    requires fits { TreeFits (program_of body.now) (scope_of scope.now) (tree_of expr.now) }
+    requires marks { BeginWith marks.now (marks_of (tree_of expr.now)) }
     ensures { IfOk result (λ count. count ≡ capped (form_terms body.now.meas (scope_of scope.now) (tree_of expr.now))) }
 {
     match expr {
@@ -63,10 +68,13 @@ fn form_terms<'a>(
                 from: index_value(scope, from),
                 to: index_value(scope, to),
             };
-            sum_terms(alloc, body, scope, over, inner)
+            sum_terms(alloc, body, scope, inside_first(marks), over, inner)
         }
-        Expr::Add { items, .. } => add_terms(alloc, body, scope, items.as_slice()),
-        Expr::Mul { factors, .. } => mul_terms(alloc, body, scope, factors.as_slice()),
+        Expr::Add { items, .. } => add_terms(alloc, body, scope, marks, items.as_slice()),
+        Expr::Mul { factors, .. } => {
+            let within = inside_first(marks);
+            mul_terms(alloc, body, scope, within, factors.as_slice())
+        }
     }
 }
 
@@ -76,19 +84,21 @@ fn sum_terms<'a>(
     alloc: Global,
     body: &Body,
     scope: &[Bound<'a>],
+    marks: &[Mark],
     over: Turns<'a>,
     inner: &'a Expr,
 ) -> Result<u64, Memory>
-    requires { (turn : ℕ) → over.from ≤ turn → turn < over.to → TreeFits (program_of body.now) (inside (scope_of scope.now) over.name.now turn) (tree_of inner.now) }
+    requires fits { (turn : ℕ) → over.from ≤ turn → turn < over.to → TreeFits (program_of body.now) (inside (scope_of scope.now) over.name.now turn) (tree_of inner.now) }
+    requires marks { BeginWith marks.now (marks_of (tree_of inner.now)) }
     ensures { IfOk result (λ count. count ≡ capped (if is_shared (tree_of inner.now) then sum_by (λ turn. form_terms body.now.meas (inside (scope_of scope.now) over.entry.name.now turn) (tree_of inner.now)) (turns over.entry.from over.entry.to) else 1)) }
 {
-    if !is_shared(inner) {
+    if !first_is_shared(marks) {
         return Ok(1);
     }
     let mut count: u64 = 0;
     for turn in over.from..over.to {
         let within = inside(alloc, scope, over.name, turn)?;
-        let terms = form_terms(alloc, body, &within, inner)?;
+        let terms = form_terms(alloc, body, &within, marks, inner)?;
         count = count.saturating_add(terms);
     }
     Ok(count)
@@ -100,18 +110,22 @@ fn add_terms<'a>(
     alloc: Global,
     body: &Body,
     scope: &[Bound<'a>],
+    marks: &[Mark],
     list: &'a [Item],
 ) -> Result<u64, Memory>
-    requires { ItemsFit (program_of body.now) (scope_of scope.now) (items (map item_of list.now)) }
+    requires fits { ItemsFit (program_of body.now) (scope_of scope.now) (items (map item_of list.now)) }
+    requires marks { BeginWith marks.now (marked (has_shared_item (items (map item_of list.now))) (item_marks (items (map item_of list.now)))) }
     ensures { IfOk result (λ count. count ≡ capped (if has_shared_item (items (map item_of list.entry.now)) then item_terms body.now.meas (scope_of scope.now) (items (map item_of list.entry.now)) else 1)) }
 {
-    if !has_shared_item(list) {
+    if !first_is_shared(marks) {
         return Ok(1);
     }
+    let mut left = inside_first(marks);
     let mut count: u64 = 0;
     for item in list {
-        let terms = form_terms(alloc, body, scope, &item.expr)?;
+        let terms = form_terms(alloc, body, scope, left, &item.expr)?;
         count = count.saturating_add(terms);
+        left = behind_first(left);
     }
     Ok(count)
 }
@@ -122,16 +136,20 @@ fn mul_terms<'a>(
     alloc: Global,
     body: &Body,
     scope: &[Bound<'a>],
+    marks: &[Mark],
     factors: &'a [Expr],
 ) -> Result<u64, Memory>
-    requires { FactorsFit (program_of body.now) (scope_of scope.now) (trees (map tree_of factors.now)) }
+    requires fits { FactorsFit (program_of body.now) (scope_of scope.now) (trees (map tree_of factors.now)) }
+    requires marks { BeginWith marks.now (factor_marks (trees (map tree_of factors.now))) }
     ensures { IfOk result (λ count. count ≡ capped (if has_shared (trees (map tree_of factors.entry.now)) then shared_factor_terms body.now.meas (scope_of scope.now) (trees (map tree_of factors.entry.now)) else 1)) }
 {
+    let mut left = marks;
     for factor in factors {
-        if is_shared(factor) {
-            let terms = form_terms(alloc, body, scope, factor)?;
+        if first_is_shared(left) {
+            let terms = form_terms(alloc, body, scope, left, factor)?;
             return Ok(terms);
         }
+        left = behind_first(left);
     }
     Ok(1)
 }
@@ -145,11 +163,14 @@ fn input_terms<'a>(
     alloc: Global,
     body: &Body,
     scope: &[Bound<'a>],
+    marks: &[Mark],
     expr: &'a Expr,
 ) -> Result<u64, Memory>
-    requires { TreeFits (program_of body.now) (scope_of scope.now) (tree_of expr.now) }
+    requires fits { TreeFits (program_of body.now) (scope_of scope.now) (tree_of expr.now) }
+    requires marks { BeginWith marks.now (marks_of (tree_of expr.now)) }
     ensures { IfOk result (λ count. count ≡ capped (input_terms body.now.meas (scope_of scope.now) (tree_of expr.now))) }
 {
+    let within = inside_first(marks);
     match expr {
         Expr::Number { .. } | Expr::Var { .. } | Expr::Joint { .. } => Ok(0),
         Expr::Meas { .. } | Expr::MeasOrZero { .. } => Ok(0),
@@ -165,13 +186,19 @@ fn input_terms<'a>(
                 from: index_value(scope, from),
                 to: index_value(scope, to),
             };
-            inputs_in_turns(alloc, body, scope, over, inner)
+            inputs_in_turns(alloc, body, scope, within, over, inner)
         }
-        Expr::Call { args, .. } => terms_of_arguments(alloc, body, scope, args.as_slice()),
-        Expr::Add { items, .. } => inputs_in_items(alloc, body, scope, items.as_slice()),
-        Expr::Mul { factors, .. } => inputs_in_factors(alloc, body, scope, factors.as_slice()),
+        Expr::Call { args, .. } => terms_of_arguments(alloc, body, scope, within, args.as_slice()),
+        Expr::Add { items, .. } => inputs_in_items(alloc, body, scope, within, items.as_slice()),
+        Expr::Mul { factors, .. } => inputs_in_factors(
+            alloc,
+            body,
+            scope,
+            within,
+            factors.as_slice(),
+        ),
         Expr::Pow { base, .. } => {
-            let terms = input_terms(alloc, body, scope, base)?;
+            let terms = input_terms(alloc, body, scope, within, base)?;
             Ok(terms)
         }
     }
@@ -183,16 +210,18 @@ fn inputs_in_turns<'a>(
     alloc: Global,
     body: &Body,
     scope: &[Bound<'a>],
+    marks: &[Mark],
     over: Turns<'a>,
     inner: &'a Expr,
 ) -> Result<u64, Memory>
-    requires { (turn : ℕ) → over.from ≤ turn → turn < over.to → TreeFits (program_of body.now) (inside (scope_of scope.now) over.name.now turn) (tree_of inner.now) }
+    requires fits { (turn : ℕ) → over.from ≤ turn → turn < over.to → TreeFits (program_of body.now) (inside (scope_of scope.now) over.name.now turn) (tree_of inner.now) }
+    requires marks { BeginWith marks.now (marks_of (tree_of inner.now)) }
     ensures { IfOk result (λ count. count ≡ capped (sum_by (λ turn. input_terms body.now.meas (inside (scope_of scope.now) over.entry.name.now turn) (tree_of inner.now)) (turns over.entry.from over.entry.to))) }
 {
     let mut count: u64 = 0;
     for turn in over.from..over.to {
         let within = inside(alloc, scope, over.name, turn)?;
-        let terms = input_terms(alloc, body, &within, inner)?;
+        let terms = input_terms(alloc, body, &within, marks, inner)?;
         count = count.saturating_add(terms);
     }
     Ok(count)
@@ -204,15 +233,19 @@ fn inputs_in_items<'a>(
     alloc: Global,
     body: &Body,
     scope: &[Bound<'a>],
+    marks: &[Mark],
     list: &'a [Item],
 ) -> Result<u64, Memory>
-    requires { ItemsFit (program_of body.now) (scope_of scope.now) (items (map item_of list.now)) }
+    requires fits { ItemsFit (program_of body.now) (scope_of scope.now) (items (map item_of list.now)) }
+    requires marks { BeginWith marks.now (item_marks (items (map item_of list.now))) }
     ensures { IfOk result (λ count. count ≡ capped (input_terms_of_items body.now.meas (scope_of scope.now) (items (map item_of list.entry.now)))) }
 {
+    let mut left = marks;
     let mut count: u64 = 0;
     for item in list {
-        let terms = input_terms(alloc, body, scope, &item.expr)?;
+        let terms = input_terms(alloc, body, scope, left, &item.expr)?;
         count = count.saturating_add(terms);
+        left = behind_first(left);
     }
     Ok(count)
 }
@@ -223,15 +256,19 @@ fn inputs_in_factors<'a>(
     alloc: Global,
     body: &Body,
     scope: &[Bound<'a>],
+    marks: &[Mark],
     factors: &'a [Expr],
 ) -> Result<u64, Memory>
-    requires { FactorsFit (program_of body.now) (scope_of scope.now) (trees (map tree_of factors.now)) }
+    requires fits { FactorsFit (program_of body.now) (scope_of scope.now) (trees (map tree_of factors.now)) }
+    requires marks { BeginWith marks.now (factor_marks (trees (map tree_of factors.now))) }
     ensures { IfOk result (λ count. count ≡ capped (input_terms_of_factors body.now.meas (scope_of scope.now) (trees (map tree_of factors.entry.now)))) }
 {
+    let mut left = marks;
     let mut count: u64 = 0;
     for factor in factors {
-        let terms = input_terms(alloc, body, scope, factor)?;
+        let terms = input_terms(alloc, body, scope, left, factor)?;
         count = count.saturating_add(terms);
+        left = behind_first(left);
     }
     Ok(count)
 }
@@ -242,15 +279,19 @@ fn terms_of_arguments<'a>(
     alloc: Global,
     body: &Body,
     scope: &[Bound<'a>],
+    marks: &[Mark],
     args: &'a [Arg],
 ) -> Result<u64, Memory>
-    requires { ArgumentsFit (program_of body.now) (scope_of scope.now) (arguments (map arg_of args.now)) }
+    requires fits { ArgumentsFit (program_of body.now) (scope_of scope.now) (arguments (map arg_of args.now)) }
+    requires marks { BeginWith marks.now (argument_marks (arguments (map arg_of args.now))) }
     ensures { IfOk result (λ count. count ≡ capped (terms_of_arguments body.now.meas (scope_of scope.now) (arguments (map arg_of args.entry.now)))) }
 {
+    let mut left = marks;
     let mut count: u64 = 0;
     for arg in args {
-        let terms = terms_of_argument(alloc, body, scope, arg)?;
+        let terms = terms_of_argument(alloc, body, scope, left, arg)?;
         count = count.saturating_add(terms);
+        left = behind_first(left);
     }
     Ok(count)
 }
@@ -262,15 +303,17 @@ fn terms_of_argument<'a>(
     alloc: Global,
     body: &Body,
     scope: &[Bound<'a>],
+    marks: &[Mark],
     arg: &'a Arg,
 ) -> Result<u64, Memory>
-    requires { ArgumentFits (program_of body.now) (scope_of scope.now) (arg_of arg.now) }
+    requires fits { ArgumentFits (program_of body.now) (scope_of scope.now) (arg_of arg.now) }
+    requires marks { BeginWith marks.now (marks_of_argument (arg_of arg.now)) }
     ensures { IfOk result (λ count. count ≡ capped (terms_of_argument body.now.meas (scope_of scope.now) (arg_of arg.now))) }
 {
     match arg {
         Arg::One(expr) => {
-            let form = form_terms(alloc, body, scope, expr)?;
-            let inner = input_terms(alloc, body, scope, expr)?;
+            let form = form_terms(alloc, body, scope, marks, expr)?;
+            let inner = input_terms(alloc, body, scope, marks, expr)?;
             Ok(form.saturating_add(inner))
         }
         Arg::Each {
@@ -285,7 +328,14 @@ fn terms_of_argument<'a>(
                 from: index_value(scope, from),
                 to: index_value(scope, to),
             };
-            arguments_in_turns(alloc, body, scope, over, inner.as_slice())
+            arguments_in_turns(
+                alloc,
+                body,
+                scope,
+                inside_first(marks),
+                over,
+                inner.as_slice(),
+            )
         }
     }
 }
@@ -296,16 +346,18 @@ fn arguments_in_turns<'a>(
     alloc: Global,
     body: &Body,
     scope: &[Bound<'a>],
+    marks: &[Mark],
     over: Turns<'a>,
     inner: &'a [Arg],
 ) -> Result<u64, Memory>
-    requires { (turn : ℕ) → over.from ≤ turn → turn < over.to → ArgumentsFit (program_of body.now) (inside (scope_of scope.now) over.name.now turn) (arguments (map arg_of inner.now)) }
+    requires fits { (turn : ℕ) → over.from ≤ turn → turn < over.to → ArgumentsFit (program_of body.now) (inside (scope_of scope.now) over.name.now turn) (arguments (map arg_of inner.now)) }
+    requires marks { BeginWith marks.now (argument_marks (arguments (map arg_of inner.now))) }
     ensures { IfOk result (λ count. count ≡ capped (sum_by (λ turn. terms_of_arguments body.now.meas (inside (scope_of scope.now) over.entry.name.now turn) (arguments (map arg_of inner.entry.now))) (turns over.entry.from over.entry.to))) }
 {
     let mut count: u64 = 0;
     for turn in over.from..over.to {
         let within = inside(alloc, scope, over.name, turn)?;
-        let terms = terms_of_arguments(alloc, body, &within, inner)?;
+        let terms = terms_of_arguments(alloc, body, &within, marks, inner)?;
         count = count.saturating_add(terms);
     }
     Ok(count)
@@ -319,15 +371,19 @@ fn terms_of_statements<'a>(
     alloc: Global,
     body: &Body,
     scope: &[Bound<'a>],
+    marks: &[Mark],
     stmts: &'a [Stmt],
 ) -> Result<u64, Memory>
-    requires { StatementsFit (program_of body.now) (scope_of scope.now) (statements (map view.statement_of stmts.now)) }
+    requires fits { StatementsFit (program_of body.now) (scope_of scope.now) (statements (map view.statement_of stmts.now)) }
+    requires marks { BeginWith marks.now (statement_marks (statements (map view.statement_of stmts.now))) }
     ensures { IfOk result (λ count. count ≡ capped (terms_of_statements body.now.meas (scope_of scope.now) (statements (map view.statement_of stmts.entry.now)))) }
 {
+    let mut left = marks;
     let mut count: u64 = 0;
     for stmt in stmts {
-        let terms = terms_of_statement(alloc, body, scope, stmt)?;
+        let terms = terms_of_statement(alloc, body, scope, left, stmt)?;
         count = count.saturating_add(terms);
+        left = behind_first(left);
     }
     Ok(count)
 }
@@ -339,14 +395,16 @@ fn terms_of_statement<'a>(
     alloc: Global,
     body: &Body,
     scope: &[Bound<'a>],
+    marks: &[Mark],
     stmt: &'a Stmt,
 ) -> Result<u64, Memory>
-    requires { StatementFits (program_of body.now) (scope_of scope.now) (view.statement_of stmt.now) }
+    requires fits { StatementFits (program_of body.now) (scope_of scope.now) (view.statement_of stmt.now) }
+    requires marks { BeginWith marks.now (marks_of_statement (view.statement_of stmt.now)) }
     ensures { IfOk result (λ count. count ≡ capped (statement_terms body.now.meas (scope_of scope.now) (view.statement_of stmt.now))) }
 {
     match stmt {
-        Stmt::Check { expr, .. } => terms_of_expression(alloc, body, scope, expr),
-        Stmt::Out { expr, .. } => terms_of_expression(alloc, body, scope, expr),
+        Stmt::Check { expr, .. } => terms_of_expression(alloc, body, scope, marks, expr),
+        Stmt::Out { expr, .. } => terms_of_expression(alloc, body, scope, marks, expr),
         Stmt::Each {
             name,
             from,
@@ -359,7 +417,14 @@ fn terms_of_statement<'a>(
                 from: index_value(scope, from),
                 to: index_value(scope, to),
             };
-            statements_in_turns(alloc, body, scope, over, inner.as_slice())
+            statements_in_turns(
+                alloc,
+                body,
+                scope,
+                inside_first(marks),
+                over,
+                inner.as_slice(),
+            )
         }
     }
 }
@@ -369,13 +434,15 @@ fn terms_of_expression<'a>(
     alloc: Global,
     body: &Body,
     scope: &[Bound<'a>],
+    marks: &[Mark],
     expr: &'a Expr,
 ) -> Result<u64, Memory>
-    requires { TreeFits (program_of body.now) (scope_of scope.now) (tree_of expr.now) }
+    requires fits { TreeFits (program_of body.now) (scope_of scope.now) (tree_of expr.now) }
+    requires marks { BeginWith marks.now (marks_of (tree_of expr.now)) }
     ensures { IfOk result (λ count. count ≡ capped (form_terms body.now.meas (scope_of scope.now) (tree_of expr.now) + input_terms body.now.meas (scope_of scope.now) (tree_of expr.now))) }
 {
-    let form = form_terms(alloc, body, scope, expr)?;
-    let inner = input_terms(alloc, body, scope, expr)?;
+    let form = form_terms(alloc, body, scope, marks, expr)?;
+    let inner = input_terms(alloc, body, scope, marks, expr)?;
     Ok(form.saturating_add(inner))
 }
 
@@ -385,16 +452,18 @@ fn statements_in_turns<'a>(
     alloc: Global,
     body: &Body,
     scope: &[Bound<'a>],
+    marks: &[Mark],
     over: Turns<'a>,
     inner: &'a [Stmt],
 ) -> Result<u64, Memory>
-    requires { (turn : ℕ) → over.from ≤ turn → turn < over.to → StatementsFit (program_of body.now) (inside (scope_of scope.now) over.name.now turn) (statements (map view.statement_of inner.now)) }
+    requires fits { (turn : ℕ) → over.from ≤ turn → turn < over.to → StatementsFit (program_of body.now) (inside (scope_of scope.now) over.name.now turn) (statements (map view.statement_of inner.now)) }
+    requires marks { BeginWith marks.now (statement_marks (statements (map view.statement_of inner.now))) }
     ensures { IfOk result (λ count. count ≡ capped (sum_by (λ turn. terms_of_statements body.now.meas (inside (scope_of scope.now) over.entry.name.now turn) (statements (map view.statement_of inner.entry.now))) (turns over.entry.from over.entry.to))) }
 {
     let mut count: u64 = 0;
     for turn in over.from..over.to {
         let within = inside(alloc, scope, over.name, turn)?;
-        let terms = terms_of_statements(alloc, body, &within, inner)?;
+        let terms = terms_of_statements(alloc, body, &within, marks, inner)?;
         count = count.saturating_add(terms);
     }
     Ok(count)

@@ -5,12 +5,14 @@ use Rattle.flp_meaning.specs.Meaning.{product}
 use Rattle.flp_forms.specs.StraightLine.{Grows}
 use Rattle.flp_emit.specs.Fitting.{FactorsFit}
 use Rattle.flp_emit.specs.Scopes.{scope_of}
+use Rattle.flp_emit.specs.Marks.{BeginWith, factor_marks}
 use Rattle.flp_emit.specs.Emitting.{ScaleRemains, public_parts}
 use Rattle.flp_emit.proofs.public.public_scale.Given as goal
 
 -- the factors from here on are left
 abbrev pub invariant-loop-factor : goal.invariant-loop-factor
 invariant-loop-factor l = record {
+  marks : BeginWith l.left (factor_marks (trees (map tree_of (drop l.factor-index l.factors))));
   grows : Grows l.fn.steps l.steps;
   fits : FactorsFit (program_of l.body) (scope_of l.scope) (trees (map tree_of (drop l.factor-index l.factors)));
   left :

@@ -1,4 +1,4 @@
-use Rattle.std.proofs.Common.{◌+◌, ◌++◌, [], ◌∙◌, sym, map, rules}
+use Rattle.std.proofs.Common.{◌≡◌, ◌+◌, ◌++◌, [], ◌∙◌, true, false, map, rules}
 use Rattle.std.proofs.lemmas.List.{drop_all}
 use Rattle.flp_syntax.specs.declared.syntax.Item.{the_lemmas}
 use Rattle.flp_syntax.specs.Tree.{trees}
@@ -7,6 +7,8 @@ use Rattle.flp_forms.specs.declared.term.Source.TheVariants.{Meas}
 use Rattle.flp_emit.specs.Scopes.{scope_of}
 use Rattle.flp_emit.specs.Code.{read_by}
 use Rattle.flp_emit.specs.Emitting.{IsOneShared}
+use Rattle.flp_syntax.specs.Sorts.{is_shared}
+use Rattle.flp_emit.proofs.Marking.{first_sort, inside_tree, behind_argument, behind_item, first_argument, first_item}
 use Rattle.flp_emit.proofs.Rests.{rest_items, rest_args}
 use Rattle.flp_emit.proofs.Parts.{turns_none, turns_next}
 use Rattle.flp_emit.proofs.Adding.{extends_trans, ready_later, adds_then, adds_none}
@@ -19,26 +21,47 @@ use Rattle.flp_emit.proofs.shared.+shared.Goals as goal
 
 pub counted_terms-returns-in_ok-shared_terms : goal.counted_terms-returns-in_ok-shared_terms
 counted_terms-returns-in_ok-shared_terms t c =
-    rw (sym c.is_shared.ensures ∙ c.if-is_shared.true) c.in_ok-shared_terms.ensures
+    let shared : is_shared (tree_of c.args.expr.now) ≡ true =
+    first_sort (tree_of c.args.expr.now) c.first_is_shared.ensures c.requires.marks ∙ c.if-first_is_shared.true in
+    rw shared c.in_ok-shared_terms.ensures
 
 pub counted_terms-returns-in_ok-add_term : goal.counted_terms-returns-in_ok-add_term
 counted_terms-returns-in_ok-add_term t c =
-    rw (sym c.is_shared.ensures ∙ c.if-is_shared.false, c.in_ok-add_term.ensures)
+    let public : is_shared (tree_of c.args.expr.now) ≡ false =
+    first_sort (tree_of c.args.expr.now) c.first_is_shared.ensures c.requires.marks ∙ c.if-first_is_shared.false in
+    rw (public, c.in_ok-add_term.ensures)
     (emitted_public c.in_ok-step.ensures c.in_ok-after.ensures)
+
+pub counted_terms-shared_terms-requires : goal.counted_terms-shared_terms-requires
+counted_terms-shared_terms-requires t c =
+    let shared : is_shared (tree_of c.args.expr.now) ≡ true =
+    first_sort (tree_of c.args.expr.now) c.first_is_shared.ensures c.requires.marks ∙ c.if-first_is_shared.true in
+    (search (rules, the_lemmas), (c.requires.ready, (shared, (c.requires.fits, (c.requires.scale, c.requires.marks)))))
+
+pub counted_terms-public_step-requires : goal.counted_terms-public_step-requires
+counted_terms-public_step-requires t c =
+    let public : is_shared (tree_of c.args.expr.now) ≡ false =
+    first_sort (tree_of c.args.expr.now) c.first_is_shared.ensures c.requires.marks ∙ c.if-first_is_shared.false in
+    record { joint = c.requires.ready.joint; public = public; fits = c.requires.fits }
 
 -- ---- arguments
 
 pub list_argument-counted_terms-requires : goal.list_argument-counted_terms-requires
-list_argument-counted_terms-requires t c =
-    (search (rules, the_lemmas), (c.requires.ready, (rw (c.in-One.is, arg_of_One) at c.requires.fits, tt)))
+list_argument-counted_terms-requires t c = (
+  search (rules, the_lemmas),
+  (c.requires.ready, (rw (c.in-One.is, arg_of_One) at c.requires.fits, (tt, rw (c.in-One.is, arg_of_One) at c.requires.marks))),
+)
 
 pub list_argument-list_turns-requires : goal.list_argument-list_turns-requires
 list_argument-list_turns-requires t c = (
   search (rules, the_lemmas),
   (
     c.requires.ready,
-    rw (c.turns_of-over.ensures.from, c.turns_of-over.ensures.to, c.turns_of-over.ensures.name, c.as_slice.ensures)
-        (rw (c.in-Each.is, arg_of_Each) at c.requires.fits).turns,
+    (
+      rw (c.turns_of-over.ensures.from, c.turns_of-over.ensures.to, c.turns_of-over.ensures.name, c.as_slice.ensures)
+          (rw (c.in-Each.is, arg_of_Each) at c.requires.fits).turns,
+      rw c.as_slice.ensures (c.inside_first-within.ensures true _ (rw (c.in-Each.is, arg_of_Each) at c.requires.marks)),
+    ),
   ),
 )
 
@@ -55,6 +78,7 @@ list_argument-returns-in-Each t c =
 pub list_arguments-loop-arg-preserved : goal.list_arguments-loop-arg-preserved
 list_arguments-loop-arg-preserved t c =
     record {
+      marks = behind_argument (rest_args _ _ c.arg-item.result c.loop-arg-test.true c.arg-item.is) c.behind_first-left.ensures c.loop-arg.invariant.marks;
       extends = extends_trans c.loop-arg.invariant.extends c.in_ok-list_argument.ensures.extends;
       args_fit = (rw (rest_args _ _ c.arg-item.result c.loop-arg-test.true c.arg-item.is) at c.loop-arg.invariant.args_fit).1;
       leads =
@@ -63,6 +87,15 @@ list_arguments-loop-arg-preserved t c =
           (rw (rest_args _ _ c.arg-item.result c.loop-arg-test.true c.arg-item.is)
           (adds_then (λ xs ys. xs ++ ys) listed_law c.in_ok-list_argument.ensures h));
     }
+
+pub list_arguments-list_argument-requires : goal.list_arguments-list_argument-requires
+list_arguments-list_argument-requires t c = (
+  search (rules, the_lemmas),
+  (
+    ready_later c.requires.ready c.loop-arg.invariant.extends,
+    ((rw (rest_args _ _ c.arg-item.result c.loop-arg-test.true c.arg-item.is) at c.loop-arg.invariant.args_fit).0, first_argument (rest_args _ _ c.arg-item.result c.loop-arg-test.true c.arg-item.is) c.loop-arg.invariant.marks),
+  ),
+)
 
 pub list_arguments-returns : goal.list_arguments-returns
 list_arguments-returns t c =
@@ -94,22 +127,25 @@ shared_call-returns t c =
 
 pub shared_product-shared_terms-requires : goal.shared_product-shared_terms-requires
 shared_product-shared_terms-requires t c =
-    let one : IsOneShared (tree_of c.index-factors-shared_place.result) (trees (map tree_of c.args.factors.now)) =
-    c.shared_place.ensures.one c.index-factors-shared_place.result c.index-factors-shared_place.is in (
+    let one : IsOneShared (tree_of c.index-factors-place.result) (trees (map tree_of c.args.factors.now)) =
+    c.shared_place-place.ensures.one c.index-factors-place.result c.index-factors-place.is in (
       search (rules, the_lemmas),
       (
         ready_later c.requires.ready (extends_steps c.args.made.now c.public_scale.new.steps c.in_ok-all.ensures.grows),
         (
           one_shared_is one,
-          (one_shared_fits (program_of c.args.body.now) (scope_of c.args.scope.now) one c.requires.fits, c.in_ok-all.ensures.fits),
+          (
+            one_shared_fits (program_of c.args.body.now) (scope_of c.args.scope.now) one c.requires.fits,
+            (c.in_ok-all.ensures.fits, c.shared_place-place.ensures.marks c.index-factors-place.result c.index-factors-place.is),
+          ),
         ),
       ),
     )
 
 pub shared_product-returns : goal.shared_product-returns
 shared_product-returns t c =
-    let one : IsOneShared (tree_of c.index-factors-shared_place.result) (trees (map tree_of c.args.factors.now)) =
-    c.shared_place.ensures.one c.index-factors-shared_place.result c.index-factors-shared_place.is in
+    let one : IsOneShared (tree_of c.index-factors-place.result) (trees (map tree_of c.args.factors.now)) =
+    c.shared_place-place.ensures.one c.index-factors-place.result c.index-factors-place.is in
     emitted_product c.in_ok-all.ensures
     (λ joint share n. one_shared_value (program_of c.args.body.now).gadgets (read_by joint share) (scope_of c.args.scope.now) one n)
     (λ joint share n. one_shared_calls (program_of c.args.body.now).gadgets (read_by joint share) (scope_of c.args.scope.now) one n)
@@ -125,7 +161,7 @@ shared_sum-counted_terms-requires t c = (
         (extends_trans c.loop-item.invariant.extends (extends_steps c.loop-item.made c.scale_with_sign.new.steps c.in_ok-signed.ensures.grows)),
     (
       (rw (rest_items _ _ c.item-item.result c.loop-item-test.true c.item-item.is) at c.loop-item.invariant.items_fit).0,
-      c.in_ok-signed.ensures.fits,
+      (c.in_ok-signed.ensures.fits, first_item (rest_items _ _ c.item-item.result c.loop-item-test.true c.item-item.is) c.loop-item.invariant.marks),
     ),
   ),
 )
@@ -133,6 +169,7 @@ shared_sum-counted_terms-requires t c = (
 pub shared_sum-loop-item-preserved : goal.shared_sum-loop-item-preserved
 shared_sum-loop-item-preserved t c =
     record {
+      marks = behind_item (rest_items _ _ c.item-item.result c.loop-item-test.true c.item-item.is) c.behind_first-left.ensures c.loop-item.invariant.marks;
       extends =
           extends_trans c.loop-item.invariant.extends
           (extends_trans (extends_steps c.loop-item.made c.scale_with_sign.new.steps c.in_ok-signed.ensures.grows)
@@ -183,7 +220,7 @@ shared_terms-shared_turns-requires t c = (
       (
         rw (c.turns_of-over.ensures.from, c.turns_of-over.ensures.to, c.turns_of-over.ensures.name, c.deref.ensures)
             (rw (c.in-Sum.is, tree_of_Sum) at c.requires.fits).turns,
-        c.requires.scale,
+        (c.requires.scale, rw c.deref.ensures (rw (c.in-Sum.is, tree_of_Sum) at (inside_tree (tree_of c.args.expr.now) c.inside_first-within.ensures c.requires.marks))),
       ),
     ),
   ),
@@ -194,7 +231,10 @@ shared_terms-shared_call-requires t c = (
   search (rules, the_lemmas),
   (
     c.requires.ready,
-    (rw c.as_slice-args.ensures (rw (c.in-Call.is, tree_of_Call) at c.requires.fits), c.requires.scale),
+    (
+      rw c.as_slice-args.ensures (rw (c.in-Call.is, tree_of_Call) at c.requires.fits),
+      (c.requires.scale, rw c.as_slice-args.ensures (rw (c.in-Call.is, tree_of_Call) at (inside_tree (tree_of c.args.expr.now) c.inside_first-within.ensures c.requires.marks))),
+    ),
   ),
 )
 
@@ -203,7 +243,10 @@ shared_terms-shared_sum-requires t c = (
   search (rules, the_lemmas),
   (
     c.requires.ready,
-    (rw c.as_slice-in-Add.ensures (rw (c.in-Add.is, tree_of_Add) at c.requires.fits), c.requires.scale),
+    (
+      rw c.as_slice-in-Add.ensures (rw (c.in-Add.is, tree_of_Add) at c.requires.fits),
+      (c.requires.scale, rw c.as_slice-in-Add.ensures (rw (c.in-Add.is, tree_of_Add) at (inside_tree (tree_of c.args.expr.now) c.inside_first-within.ensures c.requires.marks))),
+    ),
   ),
 )
 
@@ -216,7 +259,10 @@ shared_terms-shared_product-requires t c = (
       rw c.as_slice-in-Mul.ensures (rw (c.in-Mul.is, tree_of_Mul) at c.requires.shared),
       (
         rw c.as_slice-in-Mul.ensures (rw (c.in-Mul.is, tree_of_Mul) at c.requires.fits).0,
-        (rw c.as_slice-in-Mul.ensures (rw (c.in-Mul.is, tree_of_Mul) at c.requires.fits).1, c.requires.scale),
+        (
+          rw c.as_slice-in-Mul.ensures (rw (c.in-Mul.is, tree_of_Mul) at c.requires.fits).1,
+          (c.requires.scale, rw c.as_slice-in-Mul.ensures (rw (c.in-Mul.is, tree_of_Mul) at (inside_tree (tree_of c.args.expr.now) c.inside_first-within.ensures c.requires.marks))),
+        ),
       ),
     ),
   ),

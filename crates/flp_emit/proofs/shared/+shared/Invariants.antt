@@ -7,6 +7,7 @@ use Rattle.flp_forms.specs.declared.term.Term.{Term}
 use Rattle.flp_emit.specs.declared.made.Made.{Made}
 use Rattle.flp_emit.specs.Fitting.{ItemsFit, ArgumentsFit}
 use Rattle.flp_emit.specs.Scopes.{scope_of}
+use Rattle.flp_emit.specs.Marks.{BeginWith, item_marks, argument_marks}
 use Rattle.flp_emit.specs.Code.{read_by}
 use Rattle.flp_emit.specs.Emitting.{Extends, Emitted, Listed}
 use Rattle.flp_emit.proofs.shared.+shared.Given as goal
@@ -27,6 +28,7 @@ invariant-shared_turns-loop-turn l = record {
 
 abbrev pub invariant-shared_sum-loop-item : goal.invariant-shared_sum-loop-item
 invariant-shared_sum-loop-item l = record {
+  marks : BeginWith l.left (item_marks (items (map item_of (drop l.item-index l.list))));
   extends : Extends l.fn.made l.made;
   items_fit : ItemsFit (program_of l.body) (scope_of l.scope) (items (map item_of (drop l.item-index l.list)));
   leads :
@@ -39,6 +41,7 @@ invariant-shared_sum-loop-item l = record {
 
 abbrev pub invariant-list_arguments-loop-arg : goal.invariant-list_arguments-loop-arg
 invariant-list_arguments-loop-arg l = record {
+  marks : BeginWith l.left (argument_marks (arguments (map arg_of (drop l.arg-index l.args))));
   extends : Extends l.fn.made l.made;
   args_fit : ArgumentsFit (program_of l.body) (scope_of l.scope) (arguments (map arg_of (drop l.arg-index l.args)));
   leads :

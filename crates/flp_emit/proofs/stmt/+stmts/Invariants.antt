@@ -7,6 +7,7 @@ use Rattle.flp_emit.specs.declared.made.Made.{Made}
 use Rattle.flp_emit.specs.declared.made.Done.{Done}
 use Rattle.flp_emit.specs.Fitting.{StatementsFit}
 use Rattle.flp_emit.specs.Scopes.{scope_of}
+use Rattle.flp_emit.specs.Marks.{BeginWith, statement_marks}
 use Rattle.flp_emit.specs.Code.{read_by}
 use Rattle.flp_emit.specs.Emitting.{Extends, Performed}
 use Rattle.flp_emit.proofs.stmt.+stmts.Given as goal
@@ -14,6 +15,7 @@ use Rattle.flp_emit.proofs.stmt.+stmts.Given as goal
 -- what is appended from here on is appended in all
 abbrev pub invariant-perform-loop-stmt : goal.invariant-perform-loop-stmt
 invariant-perform-loop-stmt l = record {
+  marks : BeginWith l.left (statement_marks (statements (map statement_of (drop l.stmt-index l.stmts))));
   extends : Extends l.fn.made l.made;
   stmts_fit : StatementsFit (program_of l.body) (scope_of l.scope) (statements (map statement_of (drop l.stmt-index l.stmts)));
   leads :

@@ -8,6 +8,7 @@ use Rattle.flp_meaning.specs.Terms.{form_terms, item_terms, shared_factor_terms}
 use Rattle.flp_emit.specs.Counts.{capped}
 use Rattle.flp_emit.specs.Fitting.{ItemsFit, FactorsFit}
 use Rattle.flp_emit.specs.Scopes.{scope_of}
+use Rattle.flp_emit.specs.Marks.{BeginWith, item_marks, factor_marks}
 use Rattle.flp_emit.proofs.terms.+forms.Given as goal
 
 -- what was counted and what is left are all
@@ -21,6 +22,7 @@ invariant-sum_terms-loop-turn l = record {
 
 abbrev pub invariant-add_terms-loop-item : goal.invariant-add_terms-loop-item
 invariant-add_terms-loop-item l = record {
+  marks : BeginWith l.left (item_marks (items (map item_of (drop l.item-index l.list))));
   small : l.count ≤ 18446744073709551615;
   fits : ItemsFit (program_of l.body) (scope_of l.scope) (items (map item_of (drop l.item-index l.list)));
   all :
@@ -31,6 +33,7 @@ invariant-add_terms-loop-item l = record {
 -- the factors so far are public
 abbrev pub invariant-mul_terms-loop-factor : goal.invariant-mul_terms-loop-factor
 invariant-mul_terms-loop-factor l = record {
+  marks : BeginWith l.left (factor_marks (trees (map tree_of (drop l.factor-index l.factors))));
   fits : FactorsFit (program_of l.body) (scope_of l.scope) (trees (map tree_of (drop l.factor-index l.factors)));
   shared : has_shared (trees (map tree_of l.factors)) ≡ has_shared (trees (map tree_of (drop l.factor-index l.factors)));
   all :

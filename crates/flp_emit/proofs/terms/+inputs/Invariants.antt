@@ -7,6 +7,7 @@ use Rattle.flp_meaning.specs.Terms.{input_terms, input_terms_of_items, input_ter
 use Rattle.flp_emit.specs.Counts.{capped}
 use Rattle.flp_emit.specs.Fitting.{ItemsFit, FactorsFit, ArgumentsFit}
 use Rattle.flp_emit.specs.Scopes.{scope_of}
+use Rattle.flp_emit.specs.Marks.{BeginWith, item_marks, factor_marks, argument_marks}
 use Rattle.flp_emit.proofs.terms.+inputs.Given as goal
 
 -- what was counted and what is left are all
@@ -20,6 +21,7 @@ invariant-inputs_in_turns-loop-turn l = record {
 
 abbrev pub invariant-inputs_in_items-loop-item : goal.invariant-inputs_in_items-loop-item
 invariant-inputs_in_items-loop-item l = record {
+  marks : BeginWith l.left (item_marks (items (map item_of (drop l.item-index l.list))));
   small : l.count ≤ 18446744073709551615;
   fits : ItemsFit (program_of l.body) (scope_of l.scope) (items (map item_of (drop l.item-index l.list)));
   all :
@@ -29,6 +31,7 @@ invariant-inputs_in_items-loop-item l = record {
 
 abbrev pub invariant-inputs_in_factors-loop-factor : goal.invariant-inputs_in_factors-loop-factor
 invariant-inputs_in_factors-loop-factor l = record {
+  marks : BeginWith l.left (factor_marks (trees (map tree_of (drop l.factor-index l.factors))));
   small : l.count ≤ 18446744073709551615;
   fits : FactorsFit (program_of l.body) (scope_of l.scope) (trees (map tree_of (drop l.factor-index l.factors)));
   all :
@@ -38,6 +41,7 @@ invariant-inputs_in_factors-loop-factor l = record {
 
 abbrev pub invariant-terms_of_arguments-loop-arg : goal.invariant-terms_of_arguments-loop-arg
 invariant-terms_of_arguments-loop-arg l = record {
+  marks : BeginWith l.left (argument_marks (arguments (map arg_of (drop l.arg-index l.args))));
   small : l.count ≤ 18446744073709551615;
   fits : ArgumentsFit (program_of l.body) (scope_of l.scope) (arguments (map arg_of (drop l.arg-index l.args)));
   all :

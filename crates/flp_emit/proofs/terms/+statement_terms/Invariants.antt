@@ -7,11 +7,13 @@ use Rattle.flp_meaning.specs.Terms.{terms_of_statements}
 use Rattle.flp_emit.specs.Counts.{capped}
 use Rattle.flp_emit.specs.Fitting.{StatementsFit}
 use Rattle.flp_emit.specs.Scopes.{scope_of}
+use Rattle.flp_emit.specs.Marks.{BeginWith, statement_marks}
 use Rattle.flp_emit.proofs.terms.+statement_terms.Given as goal
 
 -- what was counted and what is left are all
 abbrev pub invariant-terms_of_statements-loop-stmt : goal.invariant-terms_of_statements-loop-stmt
 invariant-terms_of_statements-loop-stmt l = record {
+  marks : BeginWith l.left (statement_marks (statements (map statement_of (drop l.stmt-index l.stmts))));
   small : l.count ≤ 18446744073709551615;
   fits : StatementsFit (program_of l.body) (scope_of l.scope) (statements (map statement_of (drop l.stmt-index l.stmts)));
   all :
