@@ -12,7 +12,8 @@ cat >"$room/crates/bench_proofs/src/main.rt" <<'PROGRAM'
 //! inputs and 16 calls, so a domain of 32 points. Each line is the work, the time in milliseconds, how many
 //! records a second, and a word that depends on all of it.
 #![tactic(auto)]
-ghost use Rattle.std.specs.Prelude.{◌≡◌};
+ghost use Rattle.std.specs.Prelude.{◌≡◌, length};
+ghost use Rattle.flp_plan.specs.Counted.{lengths_of};
 ghost use Rattle.flp_prove.specs.Room.{Serves};
 ghost use Rattle.flp_query.specs.Sizes.{sizes_of};
 
@@ -23,7 +24,7 @@ use flp_lang::{Circuit, parse};
 use flp_plan::{Plan, compile};
 use flp_prove::Prover;
 use flp_query::Scratch;
-use std::alloc::Global;
+use std::alloc::{AllocError, Global};
 use std::time::Instant;
 
 const TEXT: &[u8] = b"meas 256; joint 16; gadget g = psum 16 mul;
@@ -34,38 +35,20 @@ each i in 0..256 ( out meas[i]; )";
 /// How many records are proved.
 const PROOFS: u64 = 20_000;
 
-/// How many records are queried.
+/// How many records of two shares are queried.
 const RECORDS: u64 = 10_000;
-
-/// The shares of each of them.
-const SHARES: u32 = 2;
-
-/// What a proof and a query read and write.
-#[derive(Drop)]
-struct Room {
-    x: Vec<Fe>,
-    joint: Vec<Fe>,
-    seeds: Vec<Fe>,
-    proof: Vec<Fe>,
-    words: Vec<Fe>,
-    verifier: Vec<Fe>,
-}
 
 fn main(rt: HostRuntime) -> anyhow::Result<()> {
     let plan = plan_of(rt.alloc()).context("refused")?;
-    let mut room = room_for(rt.alloc(), &plan)?;
-
-    let mut prover = Prover::new(rt.alloc(), &plan)?;
     let start = Instant::now(&rt)?;
-    let word = proofs(&mut prover, &plan, &mut room).context("other lengths")?;
+    let word = proofs(rt.alloc(), &plan)?;
     let time = start.elapsed(&rt)?.as_millis().max(1);
     println!(rt; "{PROOFS} proofs: {time} ms, {} records a second, {}", PROOFS as u128 * 1000 / time, word.value())?;
 
-    let mut scratch = Scratch::new(rt.alloc(), &plan)?;
     let start = Instant::now(&rt)?;
-    let word = queries(&mut scratch, &plan, &mut room).context("other lengths")?;
+    let word = queries(rt.alloc(), &plan)?;
     let time = start.elapsed(&rt)?.as_millis().max(1);
-    println!(rt; "{RECORDS} times the queries of {SHARES} shares: {time} ms, {} records a second, {}", RECORDS as u128 * 1000 / time, word.value())?;
+    println!(rt; "{RECORDS} times the queries of two shares: {time} ms, {} records a second, {}", RECORDS as u128 * 1000 / time, word.value())?;
     Ok(())
 }
 
@@ -77,85 +60,93 @@ fn plan_of(alloc: Global) -> Option<Plan> {
     compile(alloc, check(alloc, body).ok()?).ok()
 }
 
-/// Words for one record of the plan.
-fn room_for(alloc: Global, plan: &Plan) -> anyhow::Result<Room> {
+/// Proves again and again, each time an encoding whose words are the last word of the proof before.
+fn proofs(alloc: Global, plan: &Plan) -> Result<Fe, AllocError> {
+    let mut prover = Prover::new(alloc, plan)?;
     let lengths = plan.lengths();
-    Ok(Room {
-        x: vec![in alloc; Fe::ONE; lengths.meas as usize]?,
-        joint: vec![in alloc; Fe::GENERATOR; lengths.joint as usize]?,
-        seeds: vec![in alloc; Fe::GENERATOR; lengths.prove as usize]?,
-        proof: vec![in alloc; Fe::ONE; lengths.proof as usize]?,
-        words: vec![in alloc; Fe::GENERATOR; lengths.query as usize]?,
-        verifier: vec![in alloc; Fe::ONE; lengths.verifier as usize]?,
-    })
+    let mut x = vec![in alloc; Fe::ONE; lengths.meas as usize]?;
+    let joint = vec![in alloc; Fe::GENERATOR; lengths.joint as usize]?;
+    let seeds = vec![in alloc; Fe::GENERATOR; lengths.prove as usize]?;
+    let mut proof = vec![in alloc; Fe::ONE; lengths.proof as usize]?;
+    Ok(prove_again(&mut prover, plan, &mut x, &joint, &seeds, &mut proof))
 }
 
-/// Proves again and again, each time an encoding whose first word is the last word of the proof before.
-fn proofs(prover: &mut Prover, plan: &Plan, room: &mut Room) -> Option<Fe>
-    requires { Serves prover.old plan.now }
-{
-    for _ in 0..PROOFS {
-        proof(prover, plan, room)?;
-        room.x[0] = *room.proof.last()?;
-    }
-    Some(room.x[0])
-}
-
-/// Queries again and again, each time a share whose first word is the last word of the verifier before.
-fn queries(scratch: &mut Scratch, plan: &Plan, room: &mut Room) -> Option<Fe>
-    requires { scratch.old ≡ sizes_of plan.now }
-{
-    for _ in 0..RECORDS {
-        for _ in 0..SHARES {
-            query(scratch, plan, room)?;
-            room.x[0] = *room.verifier.last()?;
-        }
-    }
-    Some(room.x[0])
-}
-
-/// One proof, or nothing where the plan has other lengths than the room.
-fn proof(prover: &mut Prover, plan: &Plan, room: &mut Room) -> Option<()>
+/// Makes so many proofs, and gives the last word.
+fn prove_again(
+    prover: &mut Prover,
+    plan: &Plan,
+    x: &mut [Fe],
+    joint: &[Fe],
+    seeds: &[Fe],
+    proof: &mut [Fe],
+) -> Fe
     requires made { Serves prover.old plan.now }
-    ensures again { prover.new ≡ prover.old }
+    requires x { length x.old ≡ (lengths_of plan.now.circuit).meas }
+    requires joint { length joint.now ≡ (lengths_of plan.now.circuit).joint }
+    requires seeds { length seeds.now ≡ (lengths_of plan.now.circuit).prove }
+    requires proof { length proof.old ≡ (lengths_of plan.now.circuit).proof }
 {
-    let lengths = plan.lengths();
-    if room.x.len() != lengths.meas as usize
-        || room.joint.len() != lengths.joint as usize
-        || room.seeds.len() != lengths.prove as usize
-        || room.proof.len() != lengths.proof as usize
-    {
-        return None;
+    let mut word = Fe::ONE;
+    'rounds: for _ in 0..PROOFS {
+        x.fill(word);
+        prover.prove(plan, x, joint, seeds, proof);
+        word = proof.last().copied().unwrap_or(Fe::ZERO);
     }
-    prover.prove(plan, &room.x, &room.joint, &room.seeds, &mut room.proof);
-    Some(())
+    word
 }
 
-/// One query, or nothing where the plan has other lengths than the room or the point lies in the domain.
-fn query(scratch: &mut Scratch, plan: &Plan, room: &mut Room) -> Option<()>
-    requires made { scratch.old ≡ sizes_of plan.now }
-    ensures again { scratch.new ≡ scratch.old }
-{
+/// Queries again and again, each time a share whose words are the last word of the verifier before.
+fn queries(alloc: Global, plan: &Plan) -> Result<Fe, AllocError> {
+    let mut scratch = Scratch::new(alloc, plan)?;
     let lengths = plan.lengths();
-    if room.x.len() != lengths.meas as usize
-        || room.proof.len() != lengths.proof as usize
-        || room.joint.len() != lengths.joint as usize
-        || room.words.len() != lengths.query as usize
-        || room.verifier.len() != lengths.verifier as usize
-    {
-        return None;
+    let mut x = vec![in alloc; Fe::ONE; lengths.meas as usize]?;
+    let proof = vec![in alloc; Fe::GENERATOR; lengths.proof as usize]?;
+    let joint = vec![in alloc; Fe::GENERATOR; lengths.joint as usize]?;
+    let words = vec![in alloc; Fe::GENERATOR; lengths.query as usize]?;
+    let mut verifier = vec![in alloc; Fe::ONE; lengths.verifier as usize]?;
+    Ok(query_again(&mut scratch, plan, &mut x, &proof, &joint, &words, &mut verifier))
+}
+
+/// Makes two queries for each record, and gives the last word.
+fn query_again(
+    scratch: &mut Scratch,
+    plan: &Plan,
+    x: &mut [Fe],
+    proof: &[Fe],
+    joint: &[Fe],
+    words: &[Fe],
+    verifier: &mut [Fe],
+) -> Fe
+    requires made { scratch.old ≡ sizes_of plan.now }
+    requires x { length x.old ≡ (lengths_of plan.now.circuit).meas }
+    requires proof { length proof.now ≡ (lengths_of plan.now.circuit).proof }
+    requires joint { length joint.now ≡ (lengths_of plan.now.circuit).joint }
+    requires words { length words.now ≡ (lengths_of plan.now.circuit).query }
+    requires verifier { length verifier.old ≡ (lengths_of plan.now.circuit).verifier }
+{
+    let mut word = Fe::ONE;
+    'rounds: for _ in 0..2 * RECORDS {
+        x.fill(word);
+        let _answer = scratch.query(plan, x, proof, joint, words, 2, verifier);
+        word = verifier.last().copied().unwrap_or(Fe::ZERO);
     }
-    scratch
-        .query(
-            plan,
-            &room.x,
-            &room.proof,
-            &room.joint,
-            &room.words,
-            SHARES,
-            &mut room.verifier,
-        )
-        .ok()
+    word
 }
 PROGRAM
+for loop in prove_again query_again; do mkdir -p "$room/crates/bench_proofs/proofs/$loop"; done
+cat >"$room/crates/bench_proofs/proofs/prove_again/Invariants.antt" <<'PROOF'
+use Rattle.flp_prove.specs.Room.{Serves}
+use Rattle.bench_proofs.proofs.prove_again.Given as goal
+
+abbrev pub invariant-rounds : goal.invariant-rounds
+invariant-rounds l = Serves l.prover l.plan
+PROOF
+cat >"$room/crates/bench_proofs/proofs/query_again/Invariants.antt" <<'PROOF'
+use Rattle.std.proofs.Common.{◌≡◌}
+use Rattle.flp_query.specs.Sizes.{sizes_of}
+use Rattle.bench_proofs.proofs.query_again.Given as goal
+
+abbrev pub invariant-rounds : goal.invariant-rounds
+invariant-rounds l = l.scratch ≡ sizes_of l.plan
+PROOF
 measure proofs

@@ -1,7 +1,4 @@
 //! Proofs that were computed by hand. A word -1 is written as p - 1.
-ghost use Rattle.std.specs.Prelude.{◌≡◌};
-ghost use Rattle.flp_prove.specs.Room.{Serves};
-
 use super::*;
 use flp_field::{Fe, MODULUS};
 use flp_lang::{Circuit, check, parse};
@@ -37,17 +34,9 @@ fn words<const N: usize>(values: [u64; N]) -> Result<[Fe; N], Fail> {
     Ok(words)
 }
 
-/// The proof of one word.
-fn proved(
-    alloc: Global,
-    prover: &mut Prover,
-    plan: &Plan,
-    x: u64,
-    seeds: [u64; 2],
-) -> Result<Vec<Fe>, Fail>
-    requires made { Serves prover.old plan.now }
-    ensures again { prover.new ≡ prover.old }
-{
+/// The proof of one word, by a prover of its own.
+fn proof_of(alloc: Global, plan: &Plan, x: u64, seeds: [u64; 2]) -> Result<Vec<Fe>, Fail> {
+    let mut prover = Prover::new(alloc, plan)?;
     let lengths = plan.lengths();
     if lengths.meas != 1 || lengths.joint != 0 || lengths.prove != 2 {
         return Err("other lengths".into());
@@ -58,22 +47,24 @@ fn proved(
 }
 
 #[test]
-fn by_hand(rt: HostRuntime) -> Result<(), Fail> {
+fn of_one_call(rt: HostRuntime) -> Result<(), Fail> {
     laws::serves_alike();
     let plan = plan_of(rt.alloc(), SQUARE)?;
-    let mut prover = Prover::new(rt.alloc(), &plan)?;
     for (x, seeds, proof) in [
         // the wires are 2 + t and 3 + 2*t
         (1, [3, 5], [3, 5, 6, 7, 2]),
         // 3 + t and 4 + 2*t
         (2, [4, 6], [4, 6, 12, 10, 2]),
     ] {
-        let written = proved(rt.alloc(), &mut prover, &plan, x, seeds)?;
+        let written = proof_of(rt.alloc(), &plan, x, seeds)?;
         assert_eq!(rt; written[..], words(proof)?[..]);
     }
+    Ok(())
+}
 
+#[test]
+fn of_a_call_inside_a_call(rt: HostRuntime) -> Result<(), Fail> {
     let plan = plan_of(rt.alloc(), CUBE)?;
-    let mut prover = Prover::new(rt.alloc(), &plan)?;
     for (x, seeds, proof) in [
         // 6 - (3 + a)*t + 4*t^2 + (a - 3)*t^3, through 4, 4, 16 and 0, and
         // 4 + (1 - a)*t + 2*t^2 + (1 + a)*t^3, through 8, 4, 4 and 0
@@ -95,7 +86,7 @@ fn by_hand(rt: HostRuntime) -> Result<(), Fail> {
         // 1 + t + t^2 + t^3, twice
         (0, [4, 4], [4, 4, 1, 2, 3, 4, 3, 2, 1]),
     ] {
-        let written = proved(rt.alloc(), &mut prover, &plan, x, seeds)?;
+        let written = proof_of(rt.alloc(), &plan, x, seeds)?;
         assert_eq!(rt; written[..], words(proof)?[..]);
     }
     Ok(())
