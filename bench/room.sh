@@ -5,12 +5,14 @@ room="$(mktemp -d)"
 trap 'rm -rf "$room"' EXIT
 
 furnish() {
-    local name="$1" crate
+    local name="$1" crate part
     shift
     mkdir -p "$room/crates/bench_$name/src"
     for crate in "$@"; do
         mkdir "$room/crates/$crate"
-        cp -r "$top/crates/$crate/src" "$top/crates/$crate/specs" "$top/crates/$crate/proofs" "$room/crates/$crate/"
+        for part in src specs proofs; do
+            [ ! -d "$top/crates/$crate/$part" ] || cp -r "$top/crates/$crate/$part" "$room/crates/$crate/"
+        done
     done
 }
 

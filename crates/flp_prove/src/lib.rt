@@ -25,3 +25,6 @@ mod wires;
 pub use prover::Prover;
 /// Want of memory.
 pub use std::alloc::AllocError as Memory;
+
+#[cfg(test)]
+mod tests;

@@ -7,11 +7,16 @@ use Rattle.std.proofs.lemmas.List.Elements.{All-map, All-head, All-tail}
 use Rattle.std.proofs.lemmas.List.FromFn.{length-range_with_len, get_or-range_with_len, length-map-range_with_len, get_or-map-range_with_len}
 use Rattle.std.proofs.lemmas.List.Sums.{sum_by-cons}
 use Rattle.std.proofs.lemmas.Grind.{get_or_default_zero}
+use Rattle.flp_gadget.specs.KindTree.{KindTree}
+use Rattle.flp_gadget.specs.KindTree as tree
 use Rattle.flp_syntax.specs.Tree.{Program}
-use Rattle.flp_meaning.specs.Gadgets.{gadgets_of, arity_of, size_of, times, calls_made, gadgets_called, call_count, call_gadget}
+use Rattle.flp_meaning.specs.Gadgets.{gadgets_of, arity_of, size_of, times, calls_made, gadgets_called, call_count, call_gadget, check_count}
 use Rattle.flp_plan.specs.Limits.{IsWithinLimits}
 use Rattle.flp_query.specs.declared.sizes.GadgetSize.{GadgetSize}
-use Rattle.flp_query.specs.Sizes.{gadget_size}
+use Rattle.flp_plan.specs.declared.lengths.Lengths.{Lengths}
+use Rattle.flp_plan.specs.Counted.{lengths_of}
+use Rattle.flp_query.specs.declared.sizes.Sizes.{Sizes}
+use Rattle.flp_query.specs.Sizes.{gadget_size, sizes_of, AskAlike}
 use Rattle.flp_query.specs.Room.{row_words}
 
 sum-map : {X : Type 0} (g : X → ℕ) (f : ℕ → X) (xs : List ℕ) → sum_by g (map f xs) ≡ sum_by (λ x. g (f x)) xs
@@ -91,3 +96,30 @@ rows-there body sizes most same all g below =
     let count : length made ≡ length body.gadgets = length-map-range_with_len (gadget_size body) 0 (length body.gadgets) in
     let own : get_or made g d ≡ gadget_size body g = get_or-map-range_with_len (gadget_size body) 0 (length body.gadgets) g g d below (omega arith) in
     subst (λ (gadget : GadgetSize). row_words gadget ≤ most) own (those g d (omega arith))
+
+-- ---- plans that answer the same
+
+-- two functions that agree on a range give the same list there
+map-alike : {X : Type 0} (f g : ℕ → X) (a n : ℕ) → ((k : ℕ) → a ≤ k → k < a + n → f k ≡ g k)
+    → map f (range_with_len a n) ≡ map g (range_with_len a n)
+map-alike f g a zero same = refl
+map-alike f g a (suc n) same =
+    ap₂ (λ x xs. x ∷ xs) (same a (omega arith) (omega arith)) (map-alike f g (a + 1) n (λ k low high. same k (omega arith) (omega arith)))
+
+-- the size of a gadget, by its kind and its calls
+size-of : KindTree → ℕ → GadgetSize
+size-of kind calls = record { arity = tree.arity_of kind; degree = tree.degree_of kind; calls = calls }
+
+pub ask_alike : AskAlike
+unfolding size-of
+ask_alike one other alike =
+    let each : (k : ℕ) → 0 ≤ k → k < 0 + length one.circuit.gadgets → gadget_size one.circuit k ≡ gadget_size other.circuit k =
+    (λ k low high.
+    let inside : k < length one.circuit.gadgets = omega arith in
+    ap₂ size-of (alike.kinds k inside) (alike.calls k inside)) in
+    let same : map (gadget_size one.circuit) (range_with_len 0 (length one.circuit.gadgets)) ≡ map (gadget_size other.circuit) (range_with_len 0 (length one.circuit.gadgets)) =
+    map-alike (gadget_size one.circuit) (gadget_size other.circuit) 0 (length one.circuit.gadgets) each in
+    let gadgets : map (gadget_size one.circuit) (gadgets_of one.circuit) ≡ map (gadget_size other.circuit) (gadgets_of other.circuit) =
+    same ∙ ap (λ n. map (gadget_size other.circuit) (range_with_len 0 n)) alike.gadgets in
+    ap₂ (λ (lengths : Lengths) (checks : ℕ). record { lengths = lengths; checks = checks; publics = length one.steps; gadgets = map (gadget_size one.circuit) (gadgets_of one.circuit) }) alike.lengths alike.checks
+    ∙ ap₂ (λ (publics : ℕ) (gadgets : List GadgetSize). record { lengths = lengths_of other.circuit; checks = check_count other.circuit; publics = publics; gadgets = gadgets }) alike.publics gadgets

@@ -112,6 +112,7 @@ fn of_a_share(rt: HostRuntime) -> Result<(), Fail> {
     // -1 lies in the domain
     let answer = queried(&mut scratch, &plan, 1, [1; 5], MODULUS - 1, 2)?;
     assert_eq!(rt; answer, (Err(InDomain { gadget: 0 }), [Fe::ONE; 4]));
+    laws::serves_alike();
     laws::units();
     laws::shares(&plan);
     laws::honest(&plan);
