@@ -1,5 +1,5 @@
 -- No text has two answers.
-use Rattle.std.proofs.Common.{ℕ, ◌<◌, ◌≤◌, ◌≡◌, List, length, Option, None, Some, Result, Ok, Err, refl, sym, ap, ◌∙◌, ◌⊎◌, inl, inr, absurd, arith}
+use Rattle.std.proofs.Common.{ℕ, ◌<◌, ◌≤◌, ◌≡◌, List, length, Option, None, Some, Result, Ok, Err, refl, sym, ap, ◌∙◌, ◌⊎◌, inl, inr, arith}
 use Rattle.std.specs.Prelude.{◌≢◌}
 use Rattle.flp_syntax.specs.declared.syntax.Params.{Params}
 use Rattle.flp_syntax.specs.declared.fault.LangFault.{LangFault}
@@ -90,7 +90,7 @@ read_not_refused text None c fault p (b, q, _) =
 -- ---- the fault of a text that is not parsed
 
 -- the fault of a verdict; that of a text that is good is nowhere asked for
-fault_at : Verdict → LangFault
+abbrev fault_at : Verdict → LangFault
 fault_at (good text) = lang.Memory
 fault_at (bad k) = lang.Syntax k
 fault_at (deep k) = lang.Depth k
