@@ -1,0 +1,4 @@
+-- what the answers of the passes are as answers of loading
+pub mod FaultLemmas
+-- no text has two answers
+pub mod AnswerLemmas
