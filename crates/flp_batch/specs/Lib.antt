@@ -7,6 +7,8 @@ pub mod Setting
 pub mod File
 -- a line for each record
 pub mod Lines
+-- where a reader stands behind the head
+pub mod Front
 -- what opening a batch gave
 pub mod Opened
 -- one record after the other

@@ -4,9 +4,9 @@ use Rattle.std.specs.Io.KnownBytes.{Consumes}
 use Rattle.flp_report.specs.declared.batch.BatchReader.{BatchReader}
 use Rattle.flp_report.specs.Batch.{IsFront, IsInLimits, claims_of}
 use Rattle.flp_report.specs.Nonces.{nonces_in}
-use Rattle.flp_report.specs.Reader.{IsShaped, place_of, shape_given, claims_left, reports_left}
 use Rattle.flp_load.specs.Loaded.{IsLoaded}
 use Rattle.flp_batch.specs.declared.front.Opened.{Opened}
+use Rattle.flp_batch.specs.Front.{IsAtRecords}
 use Rattle.flp_batch.specs.Setting.{Setting, IsShapeOf}
 
 -- what the records behind are judged by
@@ -28,9 +28,5 @@ pub record Opens (party : Option ℕ) (left left' : Option (List ℕ)) (o : Open
   pub claims : claims_of front ≡ nonces_in o.claims
 
 -- the reader stands in front of the records
-pub record IsReady {S : Type 0} (reader : BatchReader S) (o : Opened) : Type 0 where
-  pub shaped : IsShaped reader
-  pub place : place_of reader ≡ records_start o
-  pub shape : shape_given reader ≡ o.shape
-  pub claims : claims_left reader ≡ 0
-  pub reports : reports_left reader ≡ o.header.reports
+abbrev pub IsReady : {S : Type 0} → BatchReader S → Opened → Type 0
+IsReady reader o = IsAtRecords reader o.header o.shape

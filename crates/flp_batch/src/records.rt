@@ -52,7 +52,8 @@ pub fn walk<S: Source, K: Sink, J: Judge>(
     ensures later_in { S.faults (source_of reader.old) ≤ S.faults (source_of reader.new) }
     ensures later_out { K.faults output.old ≤ K.faults output.new }
 {
-    let _stub = (alloc, opened);
+    let _alloc = alloc;
+    let _reports = opened.header.reports;
     let _reader = &*reader;
     let _judge = &*judge;
     let _output = &*output;
