@@ -1,5 +1,5 @@
 -- No file has two answers.
-use Rattle.std.proofs.Common.{◌≡◌, ℕ, ◌≤◌, ◌×◌, List, Option, Some, None, inl, inr, refl, sym, ap, subst, ◌∙◌}
+use Rattle.std.proofs.Common.{◌≡◌, ℕ, ◌≤◌, List, Option, Some, None, inl, inr, refl, sym, ap, subst, ◌∙◌}
 use Rattle.std.proofs.Math.Bridge.{le_prop}
 use Rattle.flp_syntax.specs.declared.syntax.Params.{Params}
 use Rattle.flp_syntax.specs.Tree.{Program}

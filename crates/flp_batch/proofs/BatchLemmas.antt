@@ -1,6 +1,6 @@
 -- From what was opened and what came behind it to the whole file.
-use Rattle.std.proofs.Common.{◌≡◌, ℕ, ◌+◌, ◌*◌, ◌≤◌, Option, Some, None, List, [], ◌++◌, length, inl, inr, sym, ap, subst, ◌∙◌, arith, append-nil}
-use Rattle.std.specs.Prelude.{IfSome}
+use Rattle.std.proofs.Common.{◌≡◌, ◌≢◌, ℕ, ◌+◌, ◌*◌, ◌≤◌, Option, Some, None, List, [], ◌++◌, length, inr, refl, sym, ap, subst, Result, Ok, Err, ◌∙◌, arith, append-nil}
+use Rattle.std.specs.Prelude.{IfSome, IfErr}
 use Rattle.std.specs.List.{concat}
 use Rattle.std.specs.Io.KnownBytes.{Consumes, Appends, IsAtEnd}
 use Rattle.std.proofs.KnownBytes.{Consumes-trans}
@@ -14,8 +14,11 @@ use Rattle.flp_report.proofs.LawLemmas.{fault_of-records, whole_records-first, w
 use Rattle.flp_report.proofs.BackLemmas.{records_fault-none}
 use Rattle.flp_report.proofs.KnownLemmas.{IfSome-consumed, IfSome-before}
 use Rattle.flp_report.proofs.ReadsLemmas.{ConsumesAtMost-after}
-use Rattle.flp_batch.specs.declared.fault.EngineFault.TheVariants.{Batch}
+use Rattle.flp_load.specs.declared.fault.CircuitFault.{CircuitFault}
+use Rattle.flp_batch.specs.declared.fault.EngineFault.{EngineFault}
+use Rattle.flp_batch.specs.declared.fault.EngineFault.TheVariants.{Memory, Read, Write, Batch, Circuit}
 use Rattle.flp_batch.specs.declared.front.Opened.{Opened}
+use Rattle.flp_batch.specs.Fault.{IfFile}
 use Rattle.flp_batch.specs.File.{IsFault}
 use Rattle.flp_batch.specs.Lines.{lines_from, lines_of}
 use Rattle.flp_batch.specs.Opened.{setting_of, records_start, Opens}
@@ -84,3 +87,15 @@ TakesFew-behind party o first left left' opens few =
       has = behind party first left o opens rest;
       few = ConsumesAtMost-after first left left' opens.front (o.header.reports * bytes_of o.shape + 1) (size_of o.shape bytes + 1) opens.read few fits;
     }))
+
+-- a walk's fault is the file's
+pub refused-walk : {T : Type 0} (o : Opened) (left : Option (List ℕ)) (result : Result T EngineFault)
+    → ((fault : BatchFault) → result ≡ Err (Batch fault) → IfSome left (λ rest. records_fault (records_start o) (records_start o + o.header.reports * bytes_of o.shape) rest ≡ Some fault))
+    → ((fault : CircuitFault) → result ≢ Err (Circuit fault))
+    → IfErr result (λ fault. IfFile fault (λ f. (party : Option ℕ) (first : Option (List ℕ)) → Opens party first left o → IfSome first (λ bytes. IsFault party bytes f)))
+refused-walk o left (Ok done) refused none = tt
+refused-walk o left (Err Memory) refused none = tt
+refused-walk o left (Err Read) refused none = tt
+refused-walk o left (Err Write) refused none = tt
+refused-walk o left (Err (Batch fault)) refused none = λ party first opens. refused-behind party o first left fault opens (refused fault refl)
+refused-walk o left (Err (Circuit fault)) refused none = absurd (none fault refl)

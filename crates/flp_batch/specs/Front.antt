@@ -11,7 +11,7 @@ use Rattle.flp_report.specs.Reader.{IsShaped, place_of, shape_given, claims_left
 pub record IsAtRecords {S : Type 0} (reader : BatchReader S) (header : Header) (shape : Shape) : Type 0 where
   pub shaped : IsShaped reader
   pub place : place_of reader ≡ 32 + length header.text + 16 * header.claims
-  pub shape : shape_given reader ≡ shape
+  pub given : shape_given reader ≡ shape
   pub claims : claims_left reader ≡ 0
   pub reports : reports_left reader ≡ header.reports
 
