@@ -29,6 +29,7 @@ fn batch(alloc: Global) -> Result<Vec<u8>, AllocError> {
 }
 
 // Makes a line of each record's nonce.
+#[derive(Drop)]
 struct Echo {
     shape: Shape,
 }
@@ -54,7 +55,7 @@ impl Judge for Echo {
     }
 }
 
-fn echo<S: Source, K: Sink>(
+fn run_on<S: Source, K: Sink>(
     alloc: Global,
     input: &mut S,
     output: &mut K,
@@ -114,7 +115,7 @@ fn lines_and_faults(rt: HostRuntime) -> Result<(), Fail> {
         let mut input = MemorySource::new(bytes, 4096, [read].to_vec(rt.alloc())?);
         let mut output = MemorySink::new(rt.alloc(), 4096, [write].to_vec(rt.alloc())?);
         output.reserve(64)?;
-        let answer = echo(rt.alloc(), &mut input, &mut output, party);
+        let answer = run_on(rt.alloc(), &mut input, &mut output, party);
         assert_eq!(rt; answer, wanted, "with {size} bytes, read {read} and write {write}");
         assert_eq!(rt; output.taken(), written, "with {size} bytes, read {read} and write {write}");
     }
