@@ -90,9 +90,33 @@ const CASES: [Case; 16] = [
     (&[], 299, None, 9, 9, Err(Batch(Trailing)), BOTH),
     // The faults in front of the records, each with one behind it.
     (&[(36, b'C')], 298, Some(2), 9, 9, Err(Batch(Party(2))), b""),
-    (&[(36, b'C'), (27, 1)], 298, None, 9, 9, Err(Circuit(Lang(Syntax(1)))), b""),
-    (&[(27, 1)], 50, None, 9, 9, Err(Batch(TooLarge(268435472))), b""),
-    (&[(24, 2), (58, 0)], 76, None, 9, 9, Err(Batch(ClaimsOrder(1))), b""),
+    (
+        &[(36, b'C'), (27, 1)],
+        298,
+        None,
+        9,
+        9,
+        Err(Circuit(Lang(Syntax(1)))),
+        b"",
+    ),
+    (
+        &[(27, 1)],
+        50,
+        None,
+        9,
+        9,
+        Err(Batch(TooLarge(268435472))),
+        b"",
+    ),
+    (
+        &[(24, 2), (58, 0)],
+        76,
+        None,
+        9,
+        9,
+        Err(Batch(ClaimsOrder(1))),
+        b"",
+    ),
     // The source gives the head, the text, the claims, two records, and then its end.
     (&[], 298, None, 0, 9, Err(Read), b""),
     (&[], 298, None, 2, 9, Err(Read), b""),
@@ -116,8 +140,16 @@ fn lines_and_faults(rt: HostRuntime) -> Result<(), Fail> {
         let mut output = MemorySink::new(rt.alloc(), 4096, [write].to_vec(rt.alloc())?);
         output.reserve(64)?;
         let answer = run_on(rt.alloc(), &mut input, &mut output, party);
-        assert_eq!(rt; answer, wanted, "with {size} bytes, read {read} and write {write}");
-        assert_eq!(rt; output.taken(), written, "with {size} bytes, read {read} and write {write}");
+        assert_eq!(rt;
+            answer,
+            wanted,
+            "with {size} bytes, read {read} and write {write}"
+        );
+        assert_eq!(rt;
+            output.taken(),
+            written,
+            "with {size} bytes, read {read} and write {write}"
+        );
     }
     Ok(())
 }
