@@ -1,0 +1,10 @@
+pub mod LineLemmas
+pub mod FileLemmas
+pub mod WalkLemmas
+pub mod BatchLemmas
+pub mod AnswerLemmas
+pub mod OutcomeLemmas
+pub mod OpenLemmas
+pub mod FaultLemmas
+pub mod ReaderLemmas
+pub mod ReplyLemmas
