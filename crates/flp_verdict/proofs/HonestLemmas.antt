@@ -58,13 +58,16 @@ FirstNamed-later inside start count None none later =
     (λ (same : k ≡ start). let P : ℕ → Type 0 = λ j. inside j ≡ None in subst P (sym same) none)
     (λ (above : suc start ≤ k). later k above (omega arith))
     (at_or_above start k from)
-FirstNamed-later inside start count (Some named) none later =
-    (omega (arith, later.0), omega (arith, later.1), later.2,
-    λ (k : ℕ) (from : start ≤ k) (below : k < named.0).
-    ⊎_elim
-    (λ (same : k ≡ start). let P : ℕ → Type 0 = λ j. inside j ≡ None in subst P (sym same) none)
-    (λ (above : suc start ≤ k). later.3 k above below)
-    (at_or_above start k from))
+FirstNamed-later inside start count (Some named) none later = (
+  omega (arith, later.0),
+  omega (arith, later.1),
+  later.2,
+  λ (k : ℕ) (from : start ≤ k) (below : k < named.0).
+      ⊎_elim
+      (λ (same : k ≡ start). let P : ℕ → Type 0 = λ j. inside j ≡ None in subst P (sym same) none)
+      (λ (above : suc start ≤ k). later.3 k above below)
+      (at_or_above start k from),
+)
 
 by_head : (inside : ℕ → Option ℕ) (start count : ℕ) (head : Option ℕ) → inside start ≡ head
     → FirstNamed inside (suc start) count (first_named (suc start) (map inside (range_with_len (start + 1) count)))
@@ -82,7 +85,6 @@ first_named-means inside start (suc count) = by_head inside start count (inside 
     (let P : ℕ → Type 0 = λ n. FirstNamed inside (suc start) count (first_named (suc start) (map inside (range_with_len n count))) in
     let one : suc start ≡ start + 1 = omega arith in
     subst P one (first_named-means inside (suc start) count))
-
 
 -- the verdict on an honest record whose nonce is new, from the first gadget that is named
 honest-by : (program : Program) (shape : Shape) (report : List ℕ) (inside : Option (ℕ × ℕ)) (hold : Bool)
