@@ -1,0 +1,28 @@
+-- The lines of a walk are those of the verdicts, and what was counted gives the ending.
+use Rattle.std.proofs.Common.{◌≡◌, ℕ, List, [], ◌∷◌, ◌++◌, length, map, refl, sym, ap, ap₂, ◌∙◌}
+use Rattle.std.proofs.lemmas.List.{length-map}
+use Rattle.flp_batch.specs.Setting.{Setting}
+use Rattle.flp_batch.specs.Lines.{lines_from}
+use Rattle.flp_worker.specs.Verdict.{outs_in}
+use Rattle.flp_verdict.specs.Verdicts.{judged_from, accepted_in}
+use Rattle.flp_verdict.specs.Text.{lines_of, ending_with, ending_of}
+use Rattle.flp_verify.specs.declared.counting.Counting.{Counting}
+use Rattle.flp_verify.specs.Text.{judged_by, line_by, lines_by}
+use Rattle.flp_verify.specs.Counting.{setting_of, accepted_of, sums_of, rows_by, Counts}
+
+lines_from-judged : (by : Setting) (earlier reports : List (List ℕ))
+    → lines_from (line_by by) earlier reports ≡ lines_of (judged_from by.circuit by.shape by.claims earlier reports)
+lines_from-judged by earlier [] = refl
+lines_from-judged by earlier (report ∷ reports) =
+    ap (λ (l : List ℕ). line_by by earlier report ++ l) (lines_from-judged by (earlier ++ report ∷ []) reports)
+
+pub lines-judged : (by : Setting) (reports : List (List ℕ)) → lines_from (line_by by) [] reports ≡ lines_by by reports
+lines-judged by reports = lines_from-judged by [] reports
+
+pub ending-counted : (c : Counting) (reports : List (List ℕ)) → Counts c reports
+    → ending_with (accepted_of c) (sums_of c) ≡ ending_of (setting_of c).circuit (setting_of c).shape (judged_by (setting_of c) reports)
+ending-counted c reports counts =
+    let by = setting_of c in
+    let number : accepted_of c ≡ length (accepted_in (judged_by by reports)) =
+    counts.totals.accepted ∙ length-map (outs_in by.circuit by.shape) (accepted_in (judged_by by reports)) in
+    ap₂ ending_with number counts.totals.sums
