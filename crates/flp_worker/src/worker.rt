@@ -1,0 +1,83 @@
+//! What verifies one record after another.
+ghost use Rattle.std.specs.Prelude.{◌≡◌, ◌≢◌, ◌⊎◌, ℕ, ◌<◌, IfOk};
+ghost use Rattle.flp_report.specs.Record.{record_of, shape_of};
+ghost use Rattle.flp_policy.specs.declared.verdict.Verdict.TheVariants.{Accepted as AcceptedVerdict, Rejected as RejectedVerdict, Replayed as ReplayedVerdict};
+ghost use Rattle.flp_worker.specs.Verdict.{verdict_of, outs_in, share_verifier};
+ghost use Rattle.flp_worker.specs.Worker.{IsShapeOf, IsMadeFor, verifier_kept};
+
+use crate::Memory;
+use flp_field::Fe;
+use flp_plan::Plan;
+use flp_policy::Verdict;
+use flp_query::Scratch;
+use flp_report::{Record, Shape};
+use std::alloc::Global;
+use std::marker::Model;
+
+/// What verifies records of one shape, one after another, and lends what it made of the last one.
+///
+/// Contracts see what it was made for, the row and the verifiers that it keeps. It serves each plan that asks for
+/// the same.
+#[derive(Drop)]
+pub struct Worker {
+    shape: Shape,
+    scratch: Scratch,
+    verifiers: Vec<Fe>,
+    row: Vec<Fe>,
+}
+
+impl Model for Worker {
+    ghost use Rattle.flp_worker.specs.Worker.{Working};
+
+    ghost Value = { Working };
+
+    ghost view = { λ worker. record { shape = worker.shape; sizes = worker.scratch; row = worker.row.items; verifiers = worker.verifiers.items } };
+
+    ghost invariant = { λ worker. ⊥ };
+}
+
+impl Worker {
+    /// A worker for records of this shape, whose circuit has this plan.
+    pub fn new(alloc: Global, plan: &Plan, shape: &Shape) -> Result<Worker, Memory>
+        ensures { IfOk result (λ worker. IsMadeFor plan.now shape.now worker) }
+    {
+        Err(Memory)
+    }
+
+    /// The verdict on a record whose nonce is new.
+    ///
+    /// The least word that is no word of the field makes it malformed. Else the least proof with a query point that
+    /// lies in the domain of a gadget is named with the least such gadget. Else it is accepted where each proof
+    /// holds, and rejected where one does not. It takes no memory.
+    pub fn verify_record(&mut self, plan: &Plan, shape: &Shape, given: &Record) -> Verdict
+        requires fits { IsShapeOf plan.now.circuit shape.now }
+        requires record_shape { shape_of given.now ≡ shape.now }
+        requires made { IsMadeFor plan.now shape.now self.old }
+        ensures verdict { result ≡ verdict_of plan.now.circuit shape.now (record_of given.now) }
+        ensures no_replay { result ≢ ReplayedVerdict }
+        ensures row { result ≡ AcceptedVerdict → self.new.row ≡ outs_in plan.now.circuit shape.now (record_of given.now) }
+        ensures verifiers { (result ≡ AcceptedVerdict) ⊎ (result ≡ RejectedVerdict) → (share proof : ℕ) → share < shape.now.shares → proof < shape.now.proofs → verifier_kept self.new share proof ≡ share_verifier plan.now.circuit shape.now (record_of given.now) share proof }
+        ensures again { IsMadeFor plan.now shape.now self.new }
+    {
+        let _shape = &self.shape;
+        unreachable!()
+    }
+
+    /// The outs of the unshared encoding, after a record was accepted.
+    pub fn row(&self) -> &[Fe]
+        ensures { result.now ≡ self.now.row }
+    {
+        &self.row
+    }
+
+    /// The verifier words that the last record's share has alone for this proof, after the record was accepted or
+    /// rejected. Shares and proofs are numbered from 0.
+    pub fn verifier(&self, share: u32, proof: u32) -> &[Fe]
+        requires share { share < self.now.shape.shares }
+        requires proof { proof < self.now.shape.proofs }
+        ensures { result.now ≡ verifier_kept self.now share proof }
+    {
+        let _shape = &self.shape;
+        unreachable!()
+    }
+}
