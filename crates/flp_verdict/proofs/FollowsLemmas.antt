@@ -1,10 +1,12 @@
 -- A nonce more that is known, and what a `Judging` keeps then.
-use Rattle.std.proofs.Common.{◌≡◌, ℕ, List, [], ◌∷◌, ◌++◌, Bool, true, false, not, ◌||◌, nat_eq, cond, refl, sym, ap, subst, ◌∙◌, arith, ⊎_elim}
-use Rattle.std.specs.Prelude.{if◌then◌else◌}
+use Rattle.std.proofs.Common.{◌≡◌, ℕ, ◌+◌, ◌<◌, List, [], ◌∷◌, ◌++◌, length, take, Some, Bool, true, false, not, ◌||◌, nat_eq, cond, refl, sym, ap, subst, ◌∙◌, arith, ⊎_elim}
+use Rattle.std.specs.Prelude.{if◌then◌else◌, slice_get}
 use Rattle.std.specs.Ordering.{nat_cmp, is_eq, eq_by_cmp}
 use Rattle.std.specs.Cmp.Lexicographic.{pointwise, slice_cmp, lists_ties, bytes_decides}
 use Rattle.std.specs.BTreeSet.{contains}
 use Rattle.std.proofs.lemmas.Bool.{cases_Bool}
+use Rattle.std.proofs.lemmas.List.{take_more}
+use Rattle.std.proofs.lemmas.Option.{get_or_from_slice_get}
 use Rattle.std.proofs.lemmas.Bool.Decides.{nat_tests}
 use Rattle.flp_syntax.specs.Tree.{Program}
 use Rattle.flp_report.specs.declared.shape.Shape.{Shape}
@@ -51,6 +53,16 @@ known-insert old new nonces more are inserted q =
     ∙ (or_last (is_eq (slice_cmp nat_cmp more q)) (old q)
     ∙ (ap (λ (b : Bool). b || is_eq (slice_cmp nat_cmp more q)) (are q)
     ∙ (ap (λ (b : Bool). is_among nonces q || b) (sym tie) ∙ sym (is_among_more nonces more q))))
+
+-- the set of the first nonces of a list, one more
+pub known-next : (old new : List ℕ → Bool) (nonces : List (List ℕ)) (i : ℕ) (more : List ℕ) → i < length nonces → slice_get nonces i ≡ Some more
+    → ((q : List ℕ) → old q ≡ is_among (take i nonces) q)
+    → ((q : List ℕ) → new q ≡ cond (is_eq (slice_cmp nat_cmp more q)) true (old q))
+    → (q : List ℕ) → new q ≡ is_among (take (i + 1) nonces) q
+known-next old new nonces i more below is are inserted q =
+    let next : take (i + 1) nonces ≡ take i nonces ++ more ∷ [] =
+    take_more nonces i [] below ∙ ap (λ (n : List ℕ). take i nonces ++ n ∷ []) (get_or_from_slice_get nonces i more [] is) in
+    known-insert old new (take i nonces) more are inserted q ∙ ap (λ (l : List (List ℕ)). is_among l q) (sym next)
 
 -- what is kept follows one record more
 pub Follows-more : (old new : Judging) (earlier : List (List ℕ)) (report : List ℕ) → old_claims_of new ≡ old_claims_of old → Follows old earlier

@@ -1,6 +1,6 @@
 -- Honest records: where no query point lies in a domain each proof holds, and so the record is accepted.
 use Rattle.std.proofs.Common.{◌≡◌, ◌≢◌, ℕ, zero, suc, ◌+◌, ◌<◌, ◌≤◌, List, [], ◌∷◌, length, map, take, Bool, true, false, Option, Some, None, refl, sym, ap, subst, ◌∙◌, arith, inl, inr, ⊎_elim}
-use Rattle.std.specs.Prelude.{if◌then◌else◌, ◌×◌}
+use Rattle.std.specs.Prelude.{if◌then◌else◌, ◌⊎◌}
 use Rattle.std.specs.List.{list_all, range_with_len}
 use Rattle.std.proofs.lemmas.Bool.{cases_Bool}
 use Rattle.flp_syntax.specs.Tree.{Program}
@@ -12,7 +12,7 @@ use Rattle.flp_report.specs.Record.{nonce_in, words_in}
 use Rattle.flp_report.specs.Words.{bad_word_in}
 use Rattle.flp_policy.specs.declared.verdict.Verdict.{Verdict}
 use Rattle.flp_policy.specs.declared.verdict.Verdict.TheVariants.{Accepted, Rejected, InDomain, Malformed, Replayed}
-use Rattle.flp_worker.specs.Parts.{proofs_of, joint_words, query_words, unshared_encoding, unshared_proof}
+use Rattle.flp_worker.specs.Parts.{proof_numbers, joint_words, query_words, unshared_encoding, unshared_proof}
 use Rattle.flp_worker.specs.Verdict.{verdict_of, verdict_by, verdict_if, first_named, first_inside, gadget_inside, proof_holds, all_hold}
 use Rattle.flp_verdict.specs.Verdicts.{known_behind, is_among}
 use Rattle.flp_verdict.specs.Laws.{report_at, verdict_at, IsHonestProof, IsHonest, IsHonestVerdict, AcceptsHonest}
@@ -47,7 +47,14 @@ FirstNamed inside start count (Some named) =
     (start ≤ named.0) × (named.0 < start + count) × (inside named.0 ≡ Some named.1) × ((k : ℕ) → start ≤ k → k < named.0 → inside k ≡ None)
 
 at_or_above : (start k : ℕ) → start ≤ k → (k ≡ start) ⊎ (suc start ≤ k)
-at_or_above start k from = grind arith
+at_or_above zero zero from = inl refl
+at_or_above zero (suc k) from = let above : 1 ≤ suc k = omega arith in inr above
+at_or_above (suc start) zero from = absurd (omega arith)
+at_or_above (suc start) (suc k) from =
+    let less : start ≤ k = omega arith in
+    ⊎_elim (λ (same : k ≡ start). inl (ap suc same))
+    (λ (above : suc start ≤ k). let more : suc (suc start) ≤ suc k = omega arith in inr more)
+    (at_or_above start k less)
 
 -- one more number in front, for which none is named
 FirstNamed-later : (inside : ℕ → Option ℕ) (start count : ℕ) (first : Option (ℕ × ℕ)) → inside start ≡ None

@@ -1,6 +1,6 @@
 -- The verdicts place by place: a replay exactly where the nonce is known.
 use Rattle.std.proofs.Common.{◌≡◌, ◌≢◌, ℕ, zero, suc, ◌+◌, ◌<◌, ◌≤◌, List, [], ◌∷◌, ◌++◌, length, map, get_or, take, Bool, true, false, Option, Some, None, refl, sym, ap, subst, ◌∙◌, arith, inl, inr, ⊎_elim, append_assoc, append-nil}
-use Rattle.std.specs.Prelude.{if◌then◌else◌, ◌⊎◌, ◌×◌, slice_index_or, ◌↔◌, Contains}
+use Rattle.std.specs.Prelude.{if◌then◌else◌, ◌⊎◌, slice_index_or, ◌↔◌, Contains}
 use Rattle.std.proofs.lemmas.Bool.{cases_Bool}
 use Rattle.flp_syntax.specs.Tree.{Program}
 use Rattle.flp_report.specs.declared.shape.Shape.{Shape}

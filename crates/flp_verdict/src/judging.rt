@@ -57,6 +57,7 @@ fn claim_at(claims: &Nonces, index: u32) -> [u8; 16]
 fn set_of(alloc: Global, claims: &Nonces) -> Result<BTreeSet<[u8; 16]>, Memory>
     ensures { IfOk result (λ set. (nonce : List ℕ) → contains (slice_cmp nat_cmp) set nonce ≡ is_among (nonces_in claims.now) nonce) }
 {
+    flp_report::held_parts();
     let mut set = BTreeSet::new(alloc);
     for index in 0..claims.len() {
         set.insert(claim_at(claims, index))?;

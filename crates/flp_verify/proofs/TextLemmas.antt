@@ -24,5 +24,5 @@ pub ending-counted : (c : Counting) (reports : List (List ℕ)) → Counts c rep
 ending-counted c reports counts =
     let by = setting_of c in
     let number : accepted_of c ≡ length (accepted_in (judged_by by reports)) =
-    counts.totals.accepted ∙ length-map (outs_in by.circuit by.shape) (accepted_in (judged_by by reports)) in
+    counts.totals.accepted ∙ length-map (accepted_in (judged_by by reports)) (outs_in by.circuit by.shape) in
     ap₂ ending_with number counts.totals.sums

@@ -1,5 +1,5 @@
 //! What `verify` makes of each record of a batch, and keeps.
-ghost use Rattle.std.specs.Prelude.{◌≡◌, ◌≤◌, [], length, IfOk, OnOk};
+ghost use Rattle.std.specs.Prelude.{◌≡◌, ◌++◌, [], length, IfOk, OnOk};
 ghost use Rattle.flp_meaning.specs.Gadgets.{out_count};
 ghost use Rattle.flp_report.specs.Nonces.{nonces_in};
 ghost use Rattle.flp_worker.specs.Worker.{IsShapeOf};
@@ -24,10 +24,6 @@ pub(crate) struct Counting<'a> {
 }
 
 impl<'a> Counting<'a> {
-    ghost use Rattle.std.specs.Prelude.{◌≡◌, ◌++◌, [], IfOk, OnOk};
-    ghost use Rattle.flp_report.specs.Nonces.{nonces_in};
-    ghost use Rattle.flp_worker.specs.Worker.{IsShapeOf};
-    ghost use Rattle.flp_verdict.specs.Text.{ending_with};
     ghost use Rattle.flp_verify.specs.Counting.{setting_of, accepted_of, sums_of, Counts};
 
     /// Before the first record of a batch with this circuit, shape and old claims.
