@@ -4,9 +4,8 @@ use Rattle.std.specs.Prelude.{if◌then◌else◌, ◌⊎◌}
 use Rattle.std.specs.List.{list_all, range_with_len}
 use Rattle.std.proofs.lemmas.Bool.{cases_Bool}
 use Rattle.flp_syntax.specs.Tree.{Program}
-use Rattle.flp_meaning.specs.Proof.{honest_proof}
-use Rattle.flp_meaning.specs.Verifier.{gadget_in_domain, accepts, answer_from, is_taken, verifier_words}
-use Rattle.flp_query.specs.Laws.{HonestIsTaken}
+use Rattle.flp_meaning.specs.Verifier.{gadget_in_domain, accepts}
+use Rattle.flp_meaning.specs.ProofLaws.{IsBounded, HonestProofIsAccepted}
 use Rattle.flp_report.specs.declared.shape.Shape.{Shape}
 use Rattle.flp_report.specs.Record.{nonce_in, words_in}
 use Rattle.flp_report.specs.Words.{bad_word_in}
@@ -19,17 +18,15 @@ use Rattle.flp_verdict.specs.Laws.{report_at, verdict_at, IsHonestProof, IsHones
 use Rattle.flp_verdict.proofs.PlaceLemmas.{at-place}
 
 -- an honest proof holds where no query point lies in a domain
-holds-honest : (program : Program) (shape : Shape) (report : List ℕ) (proof : ℕ) → HonestIsTaken program → IsHonestProof program shape report proof
+holds-honest : (program : Program) (shape : Shape) (report : List ℕ) (proof : ℕ) → HonestProofIsAccepted → IsBounded program → IsHonestProof program shape report proof
     → gadget_inside program shape (words_in shape report) proof ≡ None → proof_holds program shape (words_in shape report) proof ≡ true
-holds-honest program shape report proof taken honest outside =
+holds-honest program shape report proof law bounded honest outside =
     let words = words_in shape report in
     let x = unshared_encoding shape words in
     let joint = joint_words shape words proof in
     let query = query_words shape words proof in
-    let given = verifier_words program x joint (unshared_proof shape words proof) query 1 in
-    ap (λ (o : Option ℕ). is_taken program (answer_from o given)) outside
-    ∙ (ap (λ (p : List ℕ). is_taken program (answer_from None (verifier_words program x joint p query 1))) honest.honest
-    ∙ taken x joint honest.seeds query honest.are_seeds honest.valid outside)
+    ap (λ (p : List ℕ). accepts program x joint p query) honest.honest
+    ∙ law program x joint honest.seeds query bounded honest.are_seeds honest.valid outside
 
 -- so do all of them
 all_hold-from : (test : ℕ → Bool) (start count : ℕ) → ((k : ℕ) → start ≤ k → k < start + count → test k ≡ true) → list_all test (range_with_len start count) ≡ true
@@ -106,23 +103,23 @@ honest-by program shape report None hold first holds =
 honest-by program shape report (Some named) hold first holds =
     (omega (arith, first.1), first.2, λ (earlier : ℕ) (below : earlier < named.0). first.3 earlier (omega arith) below)
 
-honest-new : (program : Program) (shape : Shape) (report : List ℕ) → HonestIsTaken program → bad_word_in (words_in shape report) ≡ None → IsHonest program shape report
+honest-new : (program : Program) (shape : Shape) (report : List ℕ) → HonestProofIsAccepted → IsBounded program → bad_word_in (words_in shape report) ≡ None → IsHonest program shape report
     → IsHonestVerdict program shape report (verdict_of program shape report)
 unfolding verdict_of
-honest-new program shape report taken good honest =
+honest-new program shape report law bounded good honest =
     let words = words_in shape report in
     let inside = gadget_inside program shape words in
     let hold : ((proof : ℕ) → proof < shape.proofs → inside proof ≡ None) → all_hold program shape words ≡ true =
     λ none. all_hold-from (proof_holds program shape words) 0 shape.proofs
     (λ (k : ℕ) (from : 0 ≤ k) (below : k < 0 + shape.proofs).
     let less : k < shape.proofs = omega arith in
-    holds-honest program shape report k taken (honest k less) (none k less)) in
+    holds-honest program shape report k law bounded (honest k less) (none k less)) in
     let P : Option ℕ → Type 0 = λ b. IsHonestVerdict program shape report (verdict_by b (first_inside program shape words) (all_hold program shape words)) in
     subst P (sym good)
     (honest-by program shape report (first_inside program shape words) (all_hold program shape words) (first_named-means inside 0 shape.proofs) hold)
 
-pub accepts_honest : (program : Program) (shape : Shape) (claims reports : List (List ℕ)) → HonestIsTaken program → AcceptsHonest program shape claims reports
-accepts_honest program shape claims reports taken i below not_replayed good honest =
+pub accepts_honest : (program : Program) (shape : Shape) (claims reports : List (List ℕ)) → HonestProofIsAccepted → IsBounded program → AcceptsHonest program shape claims reports
+accepts_honest program shape claims reports law bounded i below not_replayed good honest =
     let report = report_at reports i in
     let known = is_among (known_behind claims (take i reports)) (nonce_in report) in
     let place = at-place program shape claims reports i below in
@@ -132,5 +129,5 @@ accepts_honest program shape claims reports taken i below not_replayed good hone
     (λ (new : known ≡ false).
     let P : Verdict → Type 0 = λ v. IsHonestVerdict program shape report v in
     subst P (sym (place ∙ ap (λ (b : Bool). if b then Replayed else verdict_of program shape report) new))
-    (honest-new program shape report taken good honest))
+    (honest-new program shape report law bounded good honest))
     (cases_Bool known)

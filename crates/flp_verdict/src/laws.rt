@@ -3,10 +3,9 @@
 ghost use Rattle.std.specs.Prelude.{List, ℕ};
 ghost use Rattle.flp_syntax.specs.Tree.{Program};
 ghost use Rattle.flp_syntax.specs.declared.syntax.Params.{Params};
+ghost use Rattle.flp_meaning.specs.ProofLaws.{IsBounded};
 ghost use Rattle.flp_report.specs.declared.shape.Shape.{Shape};
 ghost use Rattle.flp_verdict.specs.Laws.{JudgesOnce, AcceptsHonest, SumsMeasurements};
-
-use flp_plan::Plan;
 
 /// There is a verdict for each record, and it is Replayed exactly where the nonce is an old claim or that of an
 /// earlier record.
@@ -14,11 +13,12 @@ pub fn once()
     ensures { (program : Program) (shape : Shape) (claims reports : List (List ℕ)) → JudgesOnce program shape claims reports }
 {}
 
-/// An honest record is in the domain exactly where some query point is, and else accepted.
-pub fn honest(plan: &Plan)
-    ensures { (shape : Shape) (claims reports : List (List ℕ)) → AcceptsHonest plan.now.circuit shape claims reports }
+/// An honest record of a circuit within the limits is in the domain exactly where some query point is, and else
+/// accepted.
+pub fn honest()
+    ensures { (program : Program) → IsBounded program → (shape : Shape) (claims reports : List (List ℕ)) → AcceptsHonest program shape claims reports }
 {
-    flp_query::laws::honest(plan);
+    flp_meaning::laws::honest_is_accepted();
 }
 
 /// Where the accepted records of a standard circuit encode measurements whose sum is below p in each place, the

@@ -5,9 +5,15 @@ use Rattle.std.proofs.lemmas.List.{map-append}
 use Rattle.flp_field.specs.Word.{modulus, word_sum}
 use Rattle.flp_field.specs.Sums.{sum_of_lists}
 use Rattle.flp_field.proofs.ListSums.{column, column-cons, length-sum_of_lists, get_or-sum_of_lists, sum_of_lists_from}
+use Rattle.flp_syntax.specs.Tree.{Program}
+use Rattle.flp_meaning.specs.Circuit.{direct}
 use Rattle.flp_meaning.specs.Gadgets.{out_count}
+use Rattle.flp_meaning.proofs.Fixed.{outs_are_fixed}
+use Rattle.flp_report.specs.declared.shape.Shape.{Shape}
+use Rattle.flp_report.specs.Record.{words_in}
 use Rattle.flp_policy.specs.declared.verdict.Verdict.{Verdict}
 use Rattle.flp_policy.specs.Verdicts.{is_accepted}
+use Rattle.flp_worker.specs.Parts.{unshared_encoding}
 use Rattle.flp_worker.specs.Verdict.{outs_in}
 use Rattle.flp_batch.specs.Setting.{Setting}
 use Rattle.flp_verdict.specs.Verdicts.{Judged, judged_after, verdict_after, accepted_in}
@@ -59,6 +65,10 @@ SumUp-more outs rows row old new up counted size each = record {
 }
 
 -- ---- records
+
+pub length-outs_in : (program : Program) (shape : Shape) (report : List ℕ) → length (outs_in program shape report) ≡ out_count program
+unfolding outs_in
+length-outs_in program shape report = outs_are_fixed program (direct program (unshared_encoding shape (words_in shape report)) [])
 
 rows-by : (by : Setting) (report : List ℕ) (b : Bool) → map (outs_in by.circuit by.shape) (if b then report ∷ [] else []) ≡ (if b then outs_in by.circuit by.shape report ∷ [] else [])
 rows-by by report true = refl

@@ -4,3 +4,7 @@ pub mod TextLemmas
 pub mod CountingLemmas
 -- what was written, by the bytes of the whole file
 pub mod ReplyLemmas
+-- the shape of an opened batch
+pub mod ShapeLemmas
+-- from what holds at one outcome of a call to what follows there
+pub mod OutcomeLemmas
