@@ -8,3 +8,5 @@ pub mod ReplyLemmas
 pub mod ShapeLemmas
 -- from what holds at one outcome of a call to what follows there
 pub mod OutcomeLemmas
+-- loaded circuits
+pub mod LoadedLemmas

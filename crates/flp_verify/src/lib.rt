@@ -10,6 +10,7 @@
 #![tactic(auto)]
 
 mod counting;
+pub mod laws;
 #[cfg(test)]
 mod tests;
 mod totals;
