@@ -43,6 +43,7 @@ pub fn read_circuit<S: Source>(alloc: Global, input: &mut S) -> Result<Loaded, I
 }
 
 /// Reads the text.
+#[tactic(auto, using(crate::proofs::ReadingLemmas::reads_text))]
 fn read_text<S: Source>(alloc: Global, input: &mut S) -> Result<Vec<u8>, InputFault>
     ensures text { IfOk result (λ text. ReadsText (S.left input.old) (S.left input.new) text.items) }
     ensures never { (fault : CircuitFault) → result ≡ Err (InputFault.Circuit fault) → ⊥ }
