@@ -1,6 +1,6 @@
 -- The verdict on a record whose nonce is new, its outs, and the verifiers of its shares. From one proof up to the record's bytes.
-use Rattle.std.specs.Prelude.{ℕ, suc, Bool, true, false, List, [], ◌∷◌, map, Option, None, Some}
-use Rattle.std.specs.List.{list_all}
+use Rattle.std.specs.Prelude.{ℕ, ◌+◌, Bool, true, false, List, [], ◌∷◌, map, Option, None, Some}
+use Rattle.std.specs.List.{list_all, flat_map}
 use Rattle.flp_syntax.specs.Tree.{Program}
 use Rattle.flp_meaning.specs.Circuit.{outs_of}
 use Rattle.flp_meaning.specs.Verifier.{gadget_in_domain, verifier_words, accepts}
@@ -10,7 +10,7 @@ use Rattle.flp_report.specs.Words.{bad_word_in}
 use Rattle.flp_query.specs.Unit.{share_unit}
 use Rattle.flp_policy.specs.declared.verdict.Verdict.{Verdict}
 use Rattle.flp_policy.specs.declared.verdict.Verdict.TheVariants.{Accepted, Rejected, InDomain, Malformed}
-use Rattle.flp_worker.specs.Parts.{proof_numbers, share_encoding, share_proof, joint_words, query_words, unshared_encoding, unshared_proof}
+use Rattle.flp_worker.specs.Parts.{share_numbers, proof_numbers, share_encoding, share_proof, joint_words, query_words, unshared_encoding, unshared_proof}
 
 -- ---- of a record's words
 
@@ -34,7 +34,7 @@ gadget_inside program shape words proof = gadget_in_domain program (query_words 
 -- the first gadget that is named, behind the number of its proof, where the first of these proofs has this number
 abbrev pub first_named : ℕ → List (Option ℕ) → Option (ℕ × ℕ)
 first_named proof [] = None
-first_named proof (None ∷ more) = first_named (suc proof) more
+first_named proof (None ∷ more) = first_named (proof + 1) more
 first_named proof ((Some gadget) ∷ more) = Some (proof, gadget)
 
 -- the least proof with a query point in a domain, and that gadget
@@ -51,6 +51,13 @@ verifier_of_share program shape words proof share =
     (share_proof shape words proof share)
     (query_words shape words proof)
     (share_unit shape.shares)
+
+-- those of all shares for a proof, one after another, and those of all proofs
+abbrev pub verifiers_for : Program → Shape → (words : List ℕ) → (proof : ℕ) → List ℕ
+verifiers_for program shape words proof = flat_map (verifier_of_share program shape words proof) (share_numbers shape)
+
+abbrev pub verifiers_of : Program → Shape → (words : List ℕ) → List ℕ
+verifiers_of program shape words = flat_map (verifiers_for program shape words) (proof_numbers shape)
 
 -- ---- the verdict
 
