@@ -3,3 +3,8 @@ pub mod FileLemmas
 pub mod WalkLemmas
 pub mod BatchLemmas
 pub mod AnswerLemmas
+pub mod OutcomeLemmas
+pub mod OpenLemmas
+pub mod FaultLemmas
+pub mod ReaderLemmas
+pub mod ReplyLemmas

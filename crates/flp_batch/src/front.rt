@@ -1,17 +1,25 @@
 //! What stands in front of the records of a batch.
-ghost use Rattle.std.specs.Prelude.{◌≡◌, ◌≢◌, ◌≤◌, Err, IfOk, IfErr, IfSome};
+ghost use Rattle.std.specs.Prelude.{◌≡◌, ◌≢◌, ◌+◌, ◌*◌, ◌≤◌, None, Err, length, IfOk, IfErr, IfSome, OnOk};
+ghost use Rattle.std.specs.Io.KnownBytes.{Consumes};
 ghost use Rattle.flp_io.specs.Faults.{Rose};
 ghost use Rattle.flp_io.specs.Reads.{ConsumesSome};
-ghost use Rattle.flp_report.specs.Reads.{ConsumesWithin};
-ghost use Rattle.flp_report.specs.Reader.{source_of, SameLoan, place_of};
+ghost use Rattle.flp_report.specs.Fault.{IfBatch};
+ghost use Rattle.flp_report.specs.Batch.{large_fault};
+ghost use Rattle.flp_report.specs.Nonces.{nonce_bytes, nonce_count, nonces_in};
+ghost use Rattle.flp_report.specs.Pieces.{fall_in};
+ghost use Rattle.flp_report.specs.Reads.{ConsumesAtMost, ConsumesWithin};
+ghost use Rattle.flp_report.specs.Reader.{source_of, SameLoan, place_of, shares_given, proofs_given, claims_left, reports_left};
 ghost use Rattle.flp_batch.specs.Fault.{IfFile};
+ghost use Rattle.flp_batch.specs.Setting.{IsShapeOf};
 ghost use Rattle.flp_batch.specs.File.{IsFault, front_size};
 ghost use Rattle.flp_batch.specs.Opened.{Opens, IsReady};
+ghost use Rattle.flp_batch.specs.Front.{IsRefused, IsAtRecords};
 
-use crate::fault::EngineFault;
+use crate::fault::{EngineFault, from_load, from_read};
 use flp_io::Source;
-use flp_load::Loaded;
-use flp_report::{BatchReader, Header, Nonces, Shape};
+use flp_load::{Loaded, load_circuit};
+use flp_plan::Plan;
+use flp_report::{BatchReader, Header, Nonces, ReadFault, Shape};
 use std::alloc::Global;
 
 /// What stands in front of the records of a batch, with the circuit of its text and the shape that this
@@ -22,6 +30,55 @@ pub struct Opened {
     pub loaded: Loaded,
     pub shape: Shape,
     pub claims: Nonces,
+}
+
+/// The shape of the records behind this header, whose text is this plan's.
+fn shape_of(header: &Header, plan: &Plan) -> Shape
+    requires shares { header.now.shares ≤ 16 }
+    requires proofs { header.now.proofs ≤ 16 }
+    ensures { IsShapeOf header.now plan.now.circuit result }
+{
+    let lengths = plan.lengths();
+    Shape {
+        shares: header.shares,
+        proofs: header.proofs,
+        meas: lengths.meas,
+        joint: lengths.joint,
+        query: lengths.query,
+        proof: lengths.proof,
+    }
+}
+
+/// Sets the shape of the records and reads the old claims, behind the head.
+fn read_claims<S: Source>(
+    alloc: Global,
+    reader: &mut BatchReader<'_, S>,
+    header: &Header,
+    shape: Shape,
+) -> Result<Nonces, ReadFault>
+    requires shares { shape.shares ≡ shares_given reader.old }
+    requires proofs { shape.proofs ≡ proofs_given reader.old }
+    requires place { place_of reader.old ≡ 32 + length header.now.text }
+    requires text { length header.now.text ≤ 65536 }
+    requires left { (claims_left reader.old ≡ header.now.claims) × (reports_left reader.old ≡ header.now.reports) }
+    ensures same { SameLoan reader.old reader.new }
+    ensures fits { OnOk result (large_fault shape (32 + length header.now.text) header.now.claims header.now.reports ≡ None) }
+    ensures bytes { IfOk result (λ claims. Consumes (S.left (source_of reader.old)) (S.left (source_of reader.new)) (nonce_bytes claims)) }
+    ensures count { IfOk result (λ claims. nonce_count claims ≡ header.now.claims) }
+    ensures rising { IfOk result (λ claims. fall_in (nonces_in claims) ≡ None) }
+    ensures at { OnOk result (IsAtRecords reader.new header.now shape) }
+    ensures fault { IfErr result (λ fault. IfBatch fault (IsRefused header.now shape (S.left (source_of reader.old)))) }
+
+    // At every outcome.
+    ensures moved { ConsumesSome (S.left (source_of reader.old)) (S.left (source_of reader.new)) }
+    ensures few { ConsumesAtMost (16 * header.now.claims) (S.left (source_of reader.old)) (S.left (source_of reader.new)) }
+    ensures failed { result ≡ Err ReadFault.Failed → Rose (S.faults (source_of reader.old)) (S.faults (source_of reader.new)) }
+    ensures later { S.faults (source_of reader.old) ≤ S.faults (source_of reader.new) }
+{
+    match reader.shape(shape) {
+        Ok(()) => reader.claims(alloc),
+        Err(fault) => Err(fault),
+    }
 }
 
 /// Reads what stands in front of the records: the head, whose text is loaded as a circuit, and the old
@@ -48,7 +105,22 @@ pub fn open<S: Source>(
     ensures read { result ≡ Err EngineFault.Read → Rose (S.faults (source_of reader.old)) (S.faults (source_of reader.new)) }
     ensures later { S.faults (source_of reader.old) ≤ S.faults (source_of reader.new) }
 {
-    let _stub = (alloc, party);
-    let _reader = &*reader;
-    Err(EngineFault::Memory)
+    let header = match reader.head(alloc, party) {
+        Ok(header) => header,
+        Err(fault) => return Err(from_read(fault)),
+    };
+    let loaded = match load_circuit(alloc, header.text.as_slice()) {
+        Ok(loaded) => loaded,
+        Err(fault) => return Err(from_load(fault)),
+    };
+    let shape = shape_of(&header, &loaded.plan);
+    match read_claims(alloc, reader, &header, shape) {
+        Ok(claims) => Ok(Opened {
+            header,
+            loaded,
+            shape,
+            claims,
+        }),
+        Err(fault) => Err(from_read(fault)),
+    }
 }

@@ -29,6 +29,7 @@ fn batch(alloc: Global) -> Result<Vec<u8>, AllocError> {
 }
 
 // Makes a line of each record's nonce.
+#[derive(Drop)]
 struct Echo {
     shape: Shape,
 }
@@ -54,7 +55,7 @@ impl Judge for Echo {
     }
 }
 
-fn echo<S: Source, K: Sink>(
+fn run_on<S: Source, K: Sink>(
     alloc: Global,
     input: &mut S,
     output: &mut K,
@@ -89,9 +90,33 @@ const CASES: [Case; 16] = [
     (&[], 299, None, 9, 9, Err(Batch(Trailing)), BOTH),
     // The faults in front of the records, each with one behind it.
     (&[(36, b'C')], 298, Some(2), 9, 9, Err(Batch(Party(2))), b""),
-    (&[(36, b'C'), (27, 1)], 298, None, 9, 9, Err(Circuit(Lang(Syntax(1)))), b""),
-    (&[(27, 1)], 50, None, 9, 9, Err(Batch(TooLarge(268435472))), b""),
-    (&[(24, 2), (58, 0)], 76, None, 9, 9, Err(Batch(ClaimsOrder(1))), b""),
+    (
+        &[(36, b'C'), (27, 1)],
+        298,
+        None,
+        9,
+        9,
+        Err(Circuit(Lang(Syntax(1)))),
+        b"",
+    ),
+    (
+        &[(27, 1)],
+        50,
+        None,
+        9,
+        9,
+        Err(Batch(TooLarge(268435472))),
+        b"",
+    ),
+    (
+        &[(24, 2), (58, 0)],
+        76,
+        None,
+        9,
+        9,
+        Err(Batch(ClaimsOrder(1))),
+        b"",
+    ),
     // The source gives the head, the text, the claims, two records, and then its end.
     (&[], 298, None, 0, 9, Err(Read), b""),
     (&[], 298, None, 2, 9, Err(Read), b""),
@@ -114,9 +139,17 @@ fn lines_and_faults(rt: HostRuntime) -> Result<(), Fail> {
         let mut input = MemorySource::new(bytes, 4096, [read].to_vec(rt.alloc())?);
         let mut output = MemorySink::new(rt.alloc(), 4096, [write].to_vec(rt.alloc())?);
         output.reserve(64)?;
-        let answer = echo(rt.alloc(), &mut input, &mut output, party);
-        assert_eq!(rt; answer, wanted, "with {size} bytes, read {read} and write {write}");
-        assert_eq!(rt; output.taken(), written, "with {size} bytes, read {read} and write {write}");
+        let answer = run_on(rt.alloc(), &mut input, &mut output, party);
+        assert_eq!(rt;
+            answer,
+            wanted,
+            "with {size} bytes, read {read} and write {write}"
+        );
+        assert_eq!(rt;
+            output.taken(),
+            written,
+            "with {size} bytes, read {read} and write {write}"
+        );
     }
     Ok(())
 }

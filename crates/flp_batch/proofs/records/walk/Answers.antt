@@ -1,15 +1,18 @@
-use Rattle.std.proofs.Common.{◌+◌, ◌*◌, ◌≤◌, [], length, arith}
-use Rattle.std.proofs.KnownBytes.{Consumes-nil}
-use Rattle.flp_report.specs.Shape.{bytes_of}
-use Rattle.flp_report.specs.Reader.{source_of}
-use Rattle.flp_batch.proofs.WalkLemmas.{Stops-none}
-use Rattle.flp_batch.proofs.BatchLemmas.{StopsInBatch-behind, TakesFew-behind}
+use Rattle.flp_batch.proofs.OutcomeLemmas.{OnOk-both, OnErr-map}
+use Rattle.flp_batch.proofs.BatchLemmas.{JudgesBatch-behind, StopsInBatch-behind, TakesFew-behind, refused-walk}
 use Rattle.flp_batch.proofs.records.walk.Goals as goal
 
+pub returns-clause-done : goal.returns-clause-done
+returns-clause-done g c =
+    OnOk-both c.to_the_end.result c.to_the_end.ensures.done c.to_the_end.ensures.ended
+    (λ all ended party first opens. JudgesBatch-behind party _ _ _ first _ _ _ _ opens all ended)
+
 pub returns-clause-stopped : goal.returns-clause-stopped
-returns-clause-stopped g c = λ party first opens.
-    StopsInBatch-behind party c.args.opened.now _ first _ _ _ _ opens (Stops-none _ _ _ (g.S.Source.left (source_of c.args.reader.now)) (g.K.Sink.taken c.args.output.now))
+returns-clause-stopped g c =
+    OnErr-map c.to_the_end.result c.to_the_end.ensures.stopped (λ stop party first opens. StopsInBatch-behind party _ _ first _ _ _ _ opens stop)
+
+pub returns-clause-fault : goal.returns-clause-fault
+returns-clause-fault g c = refused-walk _ _ _ c.to_the_end.ensures.refused c.to_the_end.ensures.no_circuit
 
 pub returns-clause-few : goal.returns-clause-few
-returns-clause-few g c = λ party first opens.
-    TakesFew-behind party c.args.opened.now first _ _ opens (record { bytes = []; few = omega arith; gone = Consumes-nil (g.S.Source.left (source_of c.args.reader.now)) })
+returns-clause-few g c = λ party first opens. TakesFew-behind party _ first _ _ opens c.to_the_end.ensures.few
