@@ -9,17 +9,17 @@
 //! that verifies one record.
 #![tactic(auto)]
 
+mod command;
 mod counting;
 pub mod laws;
 #[cfg(test)]
 mod tests;
 mod totals;
-mod verify;
 
+pub use command::verify;
 pub use flp_batch::EngineFault;
 pub use flp_load::{CircuitFault, LoadFault, Loaded, load_circuit};
 pub use flp_worker::Worker;
-pub use verify::verify;
 
 /// Want of memory, as std's allocators answer it.
 pub use std::alloc::AllocError as Memory;
