@@ -1,5 +1,5 @@
 -- No file has two answers.
-use Rattle.std.proofs.Common.{◌≡◌, ℕ, ◌≤◌, List, Option, Some, None, inl, inr, refl, sym, ap, subst, ◌∙◌}
+use Rattle.std.proofs.Common.{◌≡◌, ℕ, ◌≤◌, List, Option, Some, None, inl, inr, sym, ap, subst, ◌∙◌}
 use Rattle.std.proofs.Math.Bridge.{le_prop}
 use Rattle.flp_syntax.specs.declared.syntax.Params.{Params}
 use Rattle.flp_syntax.specs.Tree.{Program}
@@ -8,9 +8,8 @@ use Rattle.flp_load.specs.Laws.{OneCircuit, OneFault, NeverBoth}
 use Rattle.flp_report.specs.declared.fault.BatchFault.{BatchFault}
 use Rattle.flp_report.specs.declared.header.Header.{Header}
 use Rattle.flp_report.specs.declared.shape.Shape.{Shape}
-use Rattle.flp_report.specs.Fault.{first_of}
 use Rattle.flp_report.specs.Head.{head_fault}
-use Rattle.flp_report.specs.Batch.{batch_letters, header_of, claims_of, fault_of}
+use Rattle.flp_report.specs.Batch.{batch_letters, header_of, fault_of}
 use Rattle.flp_batch.specs.declared.fault.EngineFault.{EngineFault}
 use Rattle.flp_batch.specs.declared.fault.EngineFault.TheVariants.{Memory, Read, Write, Batch, Circuit}
 use Rattle.flp_batch.specs.Setting.{Setting, IsShapeOf}

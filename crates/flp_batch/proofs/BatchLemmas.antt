@@ -1,8 +1,8 @@
 -- From what was opened and what came behind it to the whole file.
-use Rattle.std.proofs.Common.{◌≡◌, ◌≢◌, ℕ, ◌+◌, ◌*◌, ◌≤◌, Option, Some, None, List, [], ◌++◌, length, inr, refl, sym, ap, subst, Result, Ok, Err, ◌∙◌, arith, append-nil}
+use Rattle.std.proofs.Common.{◌≡◌, ◌≢◌, ℕ, ◌+◌, ◌*◌, ◌≤◌, Option, Some, List, [], ◌++◌, length, inr, refl, sym, ap, subst, Result, Ok, Err, ◌∙◌, arith, append-nil}
 use Rattle.std.specs.Prelude.{IfSome, IfErr}
 use Rattle.std.specs.List.{concat}
-use Rattle.std.specs.Io.KnownBytes.{Consumes, Appends, IsAtEnd}
+use Rattle.std.specs.Io.KnownBytes.{Appends, IsAtEnd}
 use Rattle.std.proofs.KnownBytes.{Consumes-trans}
 use Rattle.flp_io.specs.Writes.{TakesPrefix}
 use Rattle.flp_io.proofs.WriteLemmas.{TakesPrefix-more}

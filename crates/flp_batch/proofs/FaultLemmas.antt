@@ -6,7 +6,7 @@ use Rattle.flp_report.specs.declared.fault.BatchFault.{BatchFault}
 use Rattle.flp_report.specs.declared.fault.BatchFault.TheVariants.{Trailing}
 use Rattle.flp_report.specs.Fault.{IfBatch}
 use Rattle.flp_load.specs.declared.fault.CircuitFault.{CircuitFault}
-use Rattle.flp_batch.specs.declared.fault.EngineFault.TheVariants.{Memory, Read, Write, Batch, Circuit}
+use Rattle.flp_batch.specs.declared.fault.EngineFault.TheVariants.{Read, Write, Batch, Circuit}
 use Rattle.flp_batch.specs.Fault.{fault_from}
 
 -- a fault of the batch

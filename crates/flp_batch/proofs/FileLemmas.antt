@@ -1,5 +1,5 @@
 -- From what the reader's calls gave to what all bytes of a file say.
-use Rattle.std.proofs.Common.{◌≡◌, ℕ, ◌+◌, ◌*◌, List, [], ◌++◌, length, Option, Some, None, inl, inr, refl, sym, ap, subst, ◌∙◌, arith, append_assoc, append-nil, length-append}
+use Rattle.std.proofs.Common.{◌≡◌, ℕ, ◌+◌, ◌*◌, List, [], ◌++◌, length, Option, Some, None, inr, refl, sym, ap, subst, ◌∙◌, arith, append_assoc, append-nil, length-append}
 use Rattle.flp_syntax.specs.declared.syntax.Params.{Params}
 use Rattle.flp_syntax.specs.Tree.{Program}
 use Rattle.flp_load.specs.declared.fault.CircuitFault.{CircuitFault}
@@ -11,13 +11,13 @@ use Rattle.flp_report.specs.declared.shape.Shape.{Shape}
 use Rattle.flp_report.specs.Shape.{bytes_of}
 use Rattle.flp_report.specs.Head.{number_at, head_fault}
 use Rattle.flp_report.specs.Pieces.{pieces}
-use Rattle.flp_report.specs.Batch.{batch_letters, header_of, claims_of, large_fault, claims_fault, records_fault, fault_of, size_of, IsHead, IsFront}
+use Rattle.flp_report.specs.Batch.{batch_letters, header_of, claims_of, large_fault, claims_fault, records_fault, size_of, IsHead, IsFront}
 use Rattle.flp_report.proofs.LawLemmas.{head_fault-more, says, fault_of-shape, fault_of-claims, fault_of-records}
 use Rattle.flp_report.proofs.BackLemmas.{header_of-more, claims_of-more, length-head}
 use Rattle.flp_batch.specs.declared.fault.EngineFault.TheVariants.{Batch, Circuit}
 use Rattle.flp_batch.specs.declared.front.Opened.{Opened}
-use Rattle.flp_batch.specs.Setting.{Setting, IsShapeOf}
-use Rattle.flp_batch.specs.File.{HasSetting, IsTextFault, IsFaultBehind, IsFault}
+use Rattle.flp_batch.specs.Setting.{IsShapeOf}
+use Rattle.flp_batch.specs.File.{HasSetting, IsFault}
 use Rattle.flp_batch.specs.Opened.{setting_of, records_start, Opens}
 
 -- ---- behind a head

@@ -1,5 +1,5 @@
 -- The lines of some records and of more.
-use Rattle.std.proofs.Common.{◌≡◌, ℕ, List, [], ◌∷◌, ◌++◌, refl, sym, ap, ◌∙◌, append_assoc, append-nil}
+use Rattle.std.proofs.Common.{◌≡◌, ℕ, List, [], ◌∷◌, ◌++◌, sym, ap, ◌∙◌, append_assoc, append-nil}
 use Rattle.flp_batch.specs.Lines.{lines_from, lines_of}
 
 -- the lines of records stand in front of those of the records behind them

@@ -1,6 +1,6 @@
 -- From what holds at one outcome of a call to what follows there.
 use Rattle.std.proofs.Common.{Result, Ok, Err}
-use Rattle.std.specs.Prelude.{OnOk, OnErr, IfOk, IfErr}
+use Rattle.std.specs.Prelude.{OnOk, OnErr}
 
 pub OnOk-map : {T E P Q : Type 0} (r : Result T E) → OnOk r P → (P → Q) → OnOk r Q
 OnOk-map (Ok x) p f = f p

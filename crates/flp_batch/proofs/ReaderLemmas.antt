@@ -1,5 +1,5 @@
 -- Where a reader stands among the records.
-use Rattle.std.proofs.Common.{◌≡◌, ℕ, ◌+◌, ◌*◌, ◌≤◌, [], Option, List, ap, ◌∙◌, arith}
+use Rattle.std.proofs.Common.{◌≡◌, ℕ, ◌+◌, ◌*◌, [], Option, List, ap, ◌∙◌, arith}
 use Rattle.std.proofs.KnownBytes.{Consumes-nil}
 use Rattle.flp_report.specs.declared.batch.BatchReader.{BatchReader}
 use Rattle.flp_report.specs.declared.shape.Shape.{Shape}

@@ -1,5 +1,5 @@
 -- From what a walk did to what its command wrote: for the callers of `open` and `walk`.
-use Rattle.std.proofs.Common.{◌≡◌, ℕ, Option, List, ◌++◌, inl, inr, sym, ap, subst}
+use Rattle.std.proofs.Common.{◌≡◌, ℕ, Option, List, ◌++◌, inl, inr, subst}
 use Rattle.std.specs.Io.KnownBytes.{Appends, Keeps}
 use Rattle.std.proofs.KnownBytes.{Appends-trans}
 use Rattle.flp_io.specs.Reads.{ConsumesSome}

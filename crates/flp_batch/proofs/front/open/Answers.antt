@@ -1,14 +1,14 @@
-use Rattle.std.proofs.Common.{◌≡◌, ℕ, List, sym, subst}
+use Rattle.std.proofs.Common.{◌≡◌, ℕ, List, Err, sym, ap, subst, arith}
 use Rattle.std.specs.Prelude.{IfSome}
 use Rattle.flp_io.proofs.ReadLemmas.{ConsumesSome-after}
 use Rattle.flp_report.specs.Reader.{source_of}
 use Rattle.flp_load.specs.Loaded.{IsLoaded}
 use Rattle.flp_load.specs.Fault.{IsLoadFault}
 use Rattle.flp_batch.specs.declared.fault.EngineFault.{EngineFault}
-use Rattle.flp_batch.specs.declared.fault.EngineFault.TheVariants.{Write}
+use Rattle.flp_batch.specs.declared.fault.EngineFault.TheVariants.{Read, Write}
 use Rattle.flp_batch.specs.Fault.{fault_from, IfFile}
 use Rattle.flp_batch.specs.File.{IsFault}
-use Rattle.flp_batch.proofs.FaultLemmas.{fault_from-write}
+use Rattle.flp_batch.proofs.FaultLemmas.{fault_from-read, fault_from-write}
 use Rattle.flp_batch.proofs.OpenLemmas.{text-refused, claims-refused, Opens-from, few-head, few-claims}
 use Rattle.flp_batch.proofs.front.open.Goals as goal
 
@@ -70,3 +70,10 @@ pub returns-in-Err-read_claims-clause-few : goal.returns-in-Err-read_claims-clau
 returns-in-Err-read_claims-clause-few g c =
     let head = c.in-Ok.ensures.bytes in
     few-claims c.args.party _ _ _ head.0 c.in-Ok.header head.2 head.1 c.read_claims.ensures.few
+
+pub returns-in-Err-read_claims-clause-read : goal.returns-in-Err-read_claims-clause-read
+returns-in-Err-read_claims-clause-read g c = λ is.
+    let from = c.from_read-in-Err-read_claims.ensures in
+    let turned : fault_from c.in-Err-read_claims.fault ≡ Read = cc in
+    let rose = c.in-Err-read_claims.ensures.failed (ap Err (fault_from-read c.in-Err-read_claims.fault turned)) in
+    omega (arith, c.head.ensures.later, rose)
