@@ -6,8 +6,12 @@ ghost use Rattle.flp_worker.specs.Verdict.{verdict_of, outs_in, share_verifier};
 ghost use Rattle.flp_worker.specs.Worker.{IsShapeOf, IsMadeFor, verifier_kept};
 
 use crate::Memory;
+use crate::load::load_record;
+use crate::row::write_row;
+use crate::verify::{Inside, verify_proofs};
+use crate::words::Words;
 use flp_field::Fe;
-use flp_plan::Plan;
+use flp_plan::{Plan, laws};
 use flp_policy::Verdict;
 use flp_query::Scratch;
 use flp_report::{Record, Shape};
@@ -16,24 +20,34 @@ use std::marker::Model;
 
 /// What verifies records of one shape, one after another, and lends what it made of the last one.
 ///
-/// Contracts see what it was made for, the row and the verifiers that it keeps. It serves each plan that asks for
-/// the same.
+/// Contracts see what it was made for, and the row and the verifiers that it keeps. It serves each plan that asks
+/// for the same.
 #[derive(Drop)]
 pub struct Worker {
     shape: Shape,
     scratch: Scratch,
+    /// The words of a record.
+    words: Vec<Fe>,
+    /// For each proof, the verifier of each share.
     verifiers: Vec<Fe>,
+    /// The sum of the verifiers of the shares for one proof.
+    sum: Vec<Fe>,
+    /// The unshared encoding.
+    encoding: Vec<Fe>,
+    publics: Vec<Fe>,
     row: Vec<Fe>,
 }
 
 impl Model for Worker {
+    ghost use Rattle.std.specs.Prelude.{vec_len};
     ghost use Rattle.flp_worker.specs.Worker.{Working};
+    ghost use Rattle.flp_worker.specs.Room.{HasRoom};
 
     ghost Value = { Working };
 
     ghost view = { λ worker. record { shape = worker.shape; sizes = worker.scratch; row = worker.row.items; verifiers = worker.verifiers.items } };
 
-    ghost invariant = { λ worker. ⊥ };
+    ghost invariant = { λ worker. HasRoom worker.shape worker.scratch (vec_len worker.words) (vec_len worker.verifiers) (vec_len worker.sum) (vec_len worker.encoding) (vec_len worker.publics) (vec_len worker.row) };
 }
 
 impl Worker {
@@ -41,7 +55,20 @@ impl Worker {
     pub fn new(alloc: Global, plan: &Plan, shape: &Shape) -> Result<Worker, Memory>
         ensures { IfOk result (λ worker. IsMadeFor plan.now shape.now worker) }
     {
-        Err(Memory)
+        laws::is_within_limits(plan);
+        let lengths = plan.lengths();
+        let pairs = shape.proofs as usize * shape.shares as usize;
+        let verifier = lengths.verifier as usize;
+        Ok(Worker {
+            shape: *shape,
+            scratch: Scratch::new(alloc, plan)?,
+            words: vec![in alloc; Fe::ZERO; shape.words() as usize]?,
+            verifiers: vec![in alloc; Fe::ZERO; pairs * verifier]?,
+            sum: vec![in alloc; Fe::ZERO; verifier]?,
+            encoding: vec![in alloc; Fe::ZERO; lengths.meas as usize]?,
+            publics: vec![in alloc; Fe::ZERO; plan.publics_len() as usize]?,
+            row: vec![in alloc; Fe::ZERO; lengths.outs as usize]?,
+        })
     }
 
     /// The verdict on a record whose nonce is new.
@@ -59,8 +86,34 @@ impl Worker {
         ensures verifiers { (result ≡ AcceptedVerdict) ⊎ (result ≡ RejectedVerdict) → (share proof : ℕ) → share < shape.now.shares → proof < shape.now.proofs → verifier_kept self.new share proof ≡ share_verifier plan.now.circuit shape.now (record_of given.now) share proof }
         ensures again { IsMadeFor plan.now shape.now self.new }
     {
-        let _shape = &self.shape;
-        unreachable!()
+        if let Some(word) = given.bad_word() {
+            return Verdict::Malformed { word };
+        }
+        load_record(shape, given, &mut self.words);
+        let words = Words {
+            shape: *shape,
+            all: &self.words,
+        };
+        match verify_proofs(
+            plan,
+            &words,
+            &mut self.scratch,
+            &mut self.verifiers,
+            &mut self.sum,
+        ) {
+            Err(Inside { proof, gadget }) => Verdict::InDomain { proof, gadget },
+            Ok(false) => Verdict::Rejected,
+            Ok(true) => {
+                write_row(
+                    plan,
+                    &words,
+                    &mut self.publics,
+                    &mut self.encoding,
+                    &mut self.row,
+                );
+                Verdict::Accepted
+            }
+        }
     }
 
     /// The outs of the unshared encoding, after a record was accepted.
@@ -77,7 +130,9 @@ impl Worker {
         requires proof { proof < self.now.shape.proofs }
         ensures { result.now ≡ verifier_kept self.now share proof }
     {
-        let _shape = &self.shape;
-        unreachable!()
+        let verifiers: &[Fe] = &self.verifiers;
+        let size = self.sum.len();
+        let start = (proof as usize * self.shape.shares as usize + share as usize) * size;
+        &verifiers[start..start + size]
     }
 }

@@ -1,0 +1,13 @@
+-- The lemmas of one record.
+-- lists that are filled from the front
+pub mod PrefixLemmas
+-- words of the field, and where parts stand
+pub mod PartLemmas
+-- the first point in a domain
+pub mod InsideLemmas
+-- the sum of the shares' verifiers decides
+pub mod SumLemmas
+-- where the verifier of a share stands
+pub mod PlaceLemmas
+-- the verdict, the outs and the verifiers, from what was found
+pub mod VerdictLemmas

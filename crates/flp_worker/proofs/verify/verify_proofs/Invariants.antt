@@ -1,0 +1,15 @@
+use Rattle.std.proofs.Common.{◌≡◌, ℕ, ◌*◌, ◌<◌, take}
+use Rattle.std.specs.Prelude.{None}
+use Rattle.std.specs.List.{range_with_len, flat_map, list_all}
+use Rattle.flp_plan.specs.Counted.{lengths_of}
+use Rattle.flp_worker.specs.Verdict.{proof_holds, gadget_inside, verifiers_for}
+use Rattle.flp_worker.proofs.verify.verify_proofs.Given as goal
+
+abbrev pub invariant-loop-proof : goal.invariant-loop-proof
+invariant-loop-proof l = record {
+  again : l.scratch ≡ l.fn.scratch;
+  hold : l.hold ≡ list_all (proof_holds l.plan.circuit l.words.shape l.words.all.now) (range_with_len 0 l.proof);
+  outside : (k : ℕ) → k < l.proof → gadget_inside l.plan.circuit l.words.shape l.words.all.now k ≡ None;
+  verifiers : take (l.proof * (l.words.shape.shares * (lengths_of l.plan.circuit).verifier)) l.verifiers
+      ≡ flat_map (verifiers_for l.plan.circuit l.words.shape l.words.all.now) (range_with_len 0 l.proof);
+}
