@@ -43,24 +43,24 @@ FirstNamed inside start count None = (k : ℕ) → start ≤ k → k < start + c
 FirstNamed inside start count (Some named) =
     (start ≤ named.0) × (named.0 < start + count) × (inside named.0 ≡ Some named.1) × ((k : ℕ) → start ≤ k → k < named.0 → inside k ≡ None)
 
-at_or_above : (start k : ℕ) → start ≤ k → (k ≡ start) ⊎ (suc start ≤ k)
+at_or_above : (start k : ℕ) → start ≤ k → (k ≡ start) ⊎ (start + 1 ≤ k)
 at_or_above zero zero from = inl refl
-at_or_above zero (suc k) from = let above : 1 ≤ suc k = omega arith in inr above
+at_or_above zero (suc k) from = let above : 0 + 1 ≤ suc k = omega arith in inr above
 at_or_above (suc start) zero from = absurd (omega arith)
 at_or_above (suc start) (suc k) from =
     let less : start ≤ k = omega arith in
     ⊎_elim (λ (same : k ≡ start). inl (ap suc same))
-    (λ (above : suc start ≤ k). let more : suc (suc start) ≤ suc k = omega arith in inr more)
+    (λ (above : start + 1 ≤ k). let more : suc start + 1 ≤ suc k = omega arith in inr more)
     (at_or_above start k less)
 
 -- one more number in front, for which none is named
 FirstNamed-later : (inside : ℕ → Option ℕ) (start count : ℕ) (first : Option (ℕ × ℕ)) → inside start ≡ None
-    → FirstNamed inside (suc start) count first → FirstNamed inside start (suc count) first
+    → FirstNamed inside (start + 1) count first → FirstNamed inside start (suc count) first
 FirstNamed-later inside start count None none later =
     λ (k : ℕ) (from : start ≤ k) (below : k < start + suc count).
     ⊎_elim
     (λ (same : k ≡ start). let P : ℕ → Type 0 = λ j. inside j ≡ None in subst P (sym same) none)
-    (λ (above : suc start ≤ k). later k above (omega arith))
+    (λ (above : start + 1 ≤ k). later k above (omega arith))
     (at_or_above start k from)
 FirstNamed-later inside start count (Some named) none later = (
   omega (arith, later.0),
@@ -69,15 +69,15 @@ FirstNamed-later inside start count (Some named) none later = (
   λ (k : ℕ) (from : start ≤ k) (below : k < named.0).
       ⊎_elim
       (λ (same : k ≡ start). let P : ℕ → Type 0 = λ j. inside j ≡ None in subst P (sym same) none)
-      (λ (above : suc start ≤ k). later.3 k above below)
+      (λ (above : start + 1 ≤ k). later.3 k above below)
       (at_or_above start k from),
 )
 
 by_head : (inside : ℕ → Option ℕ) (start count : ℕ) (head : Option ℕ) → inside start ≡ head
-    → FirstNamed inside (suc start) count (first_named (suc start) (map inside (range_with_len (start + 1) count)))
+    → FirstNamed inside (start + 1) count (first_named (start + 1) (map inside (range_with_len (start + 1) count)))
     → FirstNamed inside start (suc count) (first_named start (head ∷ map inside (range_with_len (start + 1) count)))
 by_head inside start count None is later =
-    FirstNamed-later inside start count (first_named (suc start) (map inside (range_with_len (start + 1) count))) is later
+    FirstNamed-later inside start count (first_named (start + 1) (map inside (range_with_len (start + 1) count))) is later
 by_head inside start count (Some gadget) is later =
     let here : start < start + suc count = omega arith in
     let from : start ≤ start = omega arith in
@@ -85,10 +85,7 @@ by_head inside start count (Some gadget) is later =
 
 first_named-means : (inside : ℕ → Option ℕ) (start count : ℕ) → FirstNamed inside start count (first_named start (map inside (range_with_len start count)))
 first_named-means inside start zero = λ (k : ℕ) (from : start ≤ k) (below : k < start + 0). absurd (omega arith)
-first_named-means inside start (suc count) = by_head inside start count (inside start) refl
-    (let P : ℕ → Type 0 = λ n. FirstNamed inside (suc start) count (first_named (suc start) (map inside (range_with_len n count))) in
-    let one : suc start ≡ start + 1 = omega arith in
-    subst P one (first_named-means inside (suc start) count))
+first_named-means inside start (suc count) = by_head inside start count (inside start) refl (first_named-means inside (start + 1) count)
 
 -- the verdict on an honest record whose nonce is new, from the first gadget that is named
 honest-by : (program : Program) (shape : Shape) (report : List ℕ) (inside : Option (ℕ × ℕ)) (hold : Bool)
