@@ -1,0 +1,5 @@
+use Rattle.flp_verdict.proofs.MeasuredLemmas.{sums_measurements}
+use Rattle.flp_verdict.proofs.laws.sums.Goals as goal
+
+pub returns : goal.returns
+returns c = λ params shape claims reports. sums_measurements params shape claims reports c.encodings.ensures.vectors

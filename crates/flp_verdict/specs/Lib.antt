@@ -1,0 +1,11 @@
+-- What `verify` says of a batch, from the verdict on each record up to the laws.
+-- the verdict on each record, behind old claims and the records before it
+pub mod Verdicts
+-- the count and the aggregate
+pub mod Totals
+-- the text
+pub mod Text
+-- the laws
+pub mod Laws
+-- what is kept over the records that were judged
+pub mod Judging

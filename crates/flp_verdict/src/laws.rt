@@ -1,0 +1,30 @@
+//! The laws of the verdicts and the aggregate, each the contract of a function that does nothing. A caller's proof
+//! takes the law from here; the statements are in `specs/Laws.antt`.
+ghost use Rattle.std.specs.Prelude.{List, ℕ};
+ghost use Rattle.flp_syntax.specs.Tree.{Program};
+ghost use Rattle.flp_syntax.specs.declared.syntax.Params.{Params};
+ghost use Rattle.flp_meaning.specs.ProofLaws.{IsBounded};
+ghost use Rattle.flp_report.specs.declared.shape.Shape.{Shape};
+ghost use Rattle.flp_verdict.specs.Laws.{JudgesOnce, AcceptsHonest, SumsMeasurements};
+
+/// There is a verdict for each record, and it is Replayed exactly where the nonce is an old claim or that of an
+/// earlier record.
+pub fn once()
+    ensures { (program : Program) (shape : Shape) (claims reports : List (List ℕ)) → JudgesOnce program shape claims reports }
+{}
+
+/// An honest record of a circuit within the limits is in the domain exactly where some query point is, and else
+/// accepted.
+pub fn honest()
+    ensures { (program : Program) → IsBounded program → (shape : Shape) (claims reports : List (List ℕ)) → AcceptsHonest program shape claims reports }
+{
+    flp_meaning::laws::honest_is_accepted();
+}
+
+/// Where the accepted records of a standard circuit encode measurements whose sum is below p in each place, the
+/// aggregate is that sum.
+pub fn sums()
+    ensures { (params : Params) (shape : Shape) (claims reports : List (List ℕ)) → SumsMeasurements params shape claims reports }
+{
+    flp_circuits::laws::encodings();
+}

@@ -1,0 +1,23 @@
+//! The verdicts on the records of a batch, and the text that `verify` writes of them.
+//!
+//! A record whose nonce is an old claim, or that of an earlier record, is replayed; of every other the verdict is
+//! that of flp_worker. [`Judging`] keeps what decides that: the nonces that it knows, and a worker. The text
+//! (`specs/Text.antt`) is a line for each record and an ending: how many are accepted, and the sum of their outs.
+//! It is a plain function of the records, which knows nothing of how the program gets there.
+//!
+//! | To | Use |
+//! |---|---|
+//! | judge records in their order | [`Judging`]: `judge`, and then `row` or `verifier` of the record that was judged last |
+//! | make lines | [`push_line`], [`push_ending`] |
+//! | know what the verdicts and the aggregate promise | [`laws`] |
+#![tactic(auto)]
+
+mod judging;
+pub mod laws;
+mod text;
+
+pub use judging::Judging;
+pub use text::{push_ending, push_line};
+
+/// Want of memory, as std's allocators answer it.
+pub use std::alloc::AllocError as Memory;

@@ -1,0 +1,8 @@
+-- the lines and the ending of what was counted
+pub mod TextLemmas
+-- one record more
+pub mod CountingLemmas
+-- the shape of an opened batch
+pub mod ShapeLemmas
+-- loaded circuits
+pub mod LoadedLemmas

@@ -1,0 +1,17 @@
+//! The laws of what `verify` writes, each the contract of a function that does nothing. The statements are in
+//! flp_verdict's `specs/Laws.antt`.
+ghost use Rattle.std.specs.Prelude.{ℕ, List, Option};
+ghost use Rattle.flp_syntax.specs.Tree.{Program};
+ghost use Rattle.flp_syntax.specs.declared.syntax.Params.{Params};
+ghost use Rattle.flp_report.specs.declared.shape.Shape.{Shape};
+ghost use Rattle.flp_load.specs.Loaded.{IsLoaded};
+ghost use Rattle.flp_verdict.specs.Laws.{AcceptsHonest};
+
+/// An honest record of a batch, whatever circuit its text is loaded as, is in the domain exactly where some query
+/// point is, and else accepted.
+pub fn honest()
+    ensures { (text : List ℕ) (params : Option Params) (program : Program) → IsLoaded text params program
+        → (shape : Shape) (claims reports : List (List ℕ)) → AcceptsHonest program shape claims reports }
+{
+    flp_verdict::laws::honest();
+}
