@@ -49,8 +49,18 @@ pub fn lengths<S: Source, K: Sink>(
     ensures later_in { S.faults input.old ≤ S.faults input.new }
     ensures later_out { K.faults output.old ≤ K.faults output.new }
 {
-    let _alloc = alloc;
-    let _input = input;
-    let _output = output;
-    Err(LengthsFault::Memory)
+    let loaded = match read_circuit(alloc, input) {
+        Ok(loaded) => loaded,
+        Err(InputFault::Memory) => return Err(LengthsFault::Memory),
+        Err(InputFault::Read) => return Err(LengthsFault::Read),
+        Err(InputFault::Circuit(fault)) => return Err(LengthsFault::Circuit(fault)),
+    };
+    let lines = match make_lines(alloc, &loaded.plan) {
+        Ok(lines) => lines,
+        Err(_) => return Err(LengthsFault::Memory),
+    };
+    match put(output, &lines) {
+        Ok(()) => Ok(()),
+        Err(_) => Err(LengthsFault::Write),
+    }
 }
