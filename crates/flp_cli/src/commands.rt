@@ -1,5 +1,5 @@
 //! The commands, each with the line that it says where it fails, and its status.
-ghost use Rattle.std.specs.Prelude.{◌≡◌, ◌≢◌, ◌⊎◌, ℕ, Bool, List, Ok, Err, Some, MatchResult, OnOk, OnErr, IfSome};
+ghost use Rattle.std.specs.Prelude.{◌≡◌, ◌≢◌, ◌⊎◌, ℕ, Bool, List, Ok, Err, Some, MatchResult, OnOk, OnErr, IfSome, IsTrue};
 ghost use Rattle.std.specs.Io.KnownBytes.{Appends, Keeps};
 ghost use Rattle.flp_io.specs.Faults.{Rose};
 ghost use Rattle.flp_report.specs.CountBatch.{fault_of};
@@ -7,7 +7,7 @@ ghost use Rattle.flp_report.specs.declared.count_fault.CountBatchFault.{CountBat
 ghost use Rattle.flp_load.specs.declared.fault.CircuitFault.{CircuitFault};
 ghost use Rattle.flp_lengths.specs.Reading.{TakesFew};
 ghost use Rattle.flp_lengths.specs.Reply.{WritesLengths, StopsInLengths, RefusesText};
-ghost use Rattle.flp_cli.specs.Answers.{line_of_fault, lengths_line, line_for};
+ghost use Rattle.flp_cli.specs.Answers.{is_status, line_of_fault, lengths_line, line_for};
 ghost use Rattle.flp_cli.specs.Policy.{Counts};
 ghost use Rattle.flp_cli.specs.Reply.{WritesText, StopsInText, StopsEarly};
 ghost use Rattle.flp_cli.specs.Stream.{stream};
@@ -61,6 +61,8 @@ pub fn run_verify<S: Source, K: Sink, E: Sink>(
         (stream (S.left input.old) (S.left input.new) (S.faults input.old) (S.faults input.new))
         (stream (K.taken output.old) (K.taken output.new) (K.faults output.old) (K.faults output.new))
         (stream (E.taken errors.old) (E.taken errors.new) (E.faults errors.old) (E.faults errors.new)) result }
+    ensures known { IsTrue (is_status result) }
+    ensures had_job { result ≢ 2 }
     ensures read { result ≡ 4 → Rose (S.faults input.old) (S.faults input.new) }
     ensures write { result ≡ 5 → Rose (K.faults output.old) (K.faults output.new) }
     ensures line { (Rose (E.faults errors.old) (E.faults errors.new) → ⊥) → result ≢ 6 → result ≢ 7
@@ -111,6 +113,8 @@ pub fn run_lengths<S: Source, K: Sink, E: Sink>(
         (stream (S.left input.old) (S.left input.new) (S.faults input.old) (S.faults input.new))
         (stream (K.taken output.old) (K.taken output.new) (K.faults output.old) (K.faults output.new))
         (stream (E.taken errors.old) (E.taken errors.new) (E.faults errors.old) (E.faults errors.new)) result }
+    ensures known { IsTrue (is_status result) }
+    ensures had_job { result ≢ 2 }
     ensures read { result ≡ 4 → Rose (S.faults input.old) (S.faults input.new) }
     ensures write { result ≡ 5 → Rose (K.faults output.old) (K.faults output.new) }
     ensures line { (Rose (E.faults errors.old) (E.faults errors.new) → ⊥) → result ≢ 6 → result ≢ 7
