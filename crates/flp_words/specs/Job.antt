@@ -1,8 +1,7 @@
 -- The job that the words of the command line name, from the words down to one option.
-use Rattle.std.specs.Prelude.{ℕ, List, Option, Some, None, option_map, option_and_then, if◌then◌else◌, codes}
+use Rattle.std.specs.Prelude.{ℕ, List, [], ◌∷◌, Option, Some, None, option_map, option_and_then, if◌then◌else◌, codes}
 use Rattle.std.specs.Str.{bytes_eq}
 use Rattle.clap.specs.Words.{Kinds, Row, Text, fault_of, first_of, subcommand_of}
-use Rattle.clap.specs.Walk.{is_empty}
 use Rattle.flp_words.specs.declared.job.Job.{Job}
 use Rattle.flp_words.specs.declared.job.Job.TheVariants.{Verify, Lengths}
 use Rattle.flp_words.specs.Number.{number_in}
@@ -29,7 +28,8 @@ job_at = option_and_then (λ met. job_named met.0 met.1)
 
 -- the job of words of which `clap` says these faults, or else that it met this command
 abbrev pub job_by : Kinds → Option (Text × List Row) → Option Job
-job_by faults met = if is_empty faults then job_at met else None
+job_by [] met = job_at met
+job_by (fault ∷ others) met = None
 
 -- the job of the words, the program's name first, by what `clap`'s definition says of them and of
 -- the declared commands

@@ -6,10 +6,12 @@ use Rattle.std.specs.Str.Parse.{digits_value}
 
 -- one to ten decimal digits
 abbrev pub has_number_form : List ℕ → Bool
-has_number_form text = nat_le 1 (length text) && nat_le (length text) 10 && list_all is_ascii_digit text
+has_number_form text = list_all is_ascii_digit text && (nat_le 1 (length text) && nat_le (length text) 10)
+
+abbrev pub is_between : ℕ → ℕ → ℕ → Bool
+is_between least most value = nat_le value most && nat_le least value
 
 -- a text as a number from `least` to `most`
 abbrev pub number_in : ℕ → ℕ → List ℕ → Option ℕ
 number_in least most text =
-    let value = digits_value 10 text in
-    if has_number_form text && nat_le least value && nat_le value most then Some value else None
+    if is_between least most (digits_value 10 text) && has_number_form text then Some (digits_value 10 text) else None

@@ -1,6 +1,7 @@
 //! The commands of the program, as `clap` is told of them.
 ghost use Rattle.std.specs.Prelude.{◌≡◌, IfOk, false};
-ghost use Rattle.clap.specs.Words.{app_of, fields_of, rule_of};
+ghost use Rattle.clap.specs.Words.{app_of, rule_of};
+ghost use Rattle.clap.specs.declared.builder.command.Command.TheViews.{out-Command as fields_of};
 ghost use Rattle.flp_words.specs.Commands.{required_option, verify_command, flp_command};
 
 use clap::{Arg, ArgAction, Command};

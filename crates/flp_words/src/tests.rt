@@ -15,7 +15,10 @@ fn jobs_of_words(rt: HostRuntime) -> Result<(), Memory> {
         (&["flp", "verify", "--workers", "17"], None),
         (&["flp", "verify", "--workers", "+1"], None),
         (&["flp", "verify", "--workers", "-1"], None),
-        (&["flp", "verify", "--workers", "0000000001"], Some(Job::Verify(1))),
+        (
+            &["flp", "verify", "--workers", "0000000001"],
+            Some(Job::Verify(1)),
+        ),
         (&["flp", "verify", "--workers", "00000000001"], None),
         (&["flp", "verify", "--workers", "4294967297"], None),
         (&["flp", "verify", "--workers=7"], Some(Job::Verify(7))),
