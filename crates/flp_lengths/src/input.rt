@@ -1,12 +1,12 @@
 //! The circuit text that is the input.
-ghost use Rattle.std.specs.Prelude.{◌≡◌, ◌≤◌, Err, IfOk};
+ghost use Rattle.std.specs.Prelude.{◌≡◌, ◌≤◌, Err, IfOk, length};
 ghost use Rattle.flp_io.specs.Faults.{Rose};
 ghost use Rattle.flp_load.specs.declared.fault.CircuitFault.{CircuitFault};
 ghost use Rattle.flp_lengths.specs.Reading.{TakesFew, ReadsText, ReadsCircuit, ReadsFault};
 
 use flp_io::{Source, fill};
 use flp_load::{CircuitFault, LoadFault, Loaded, load_circuit};
-use std::alloc::Global;
+use std::alloc::{AllocError, Global};
 
 /// How many bytes are read at most: one more than the longest text has.
 const MOST: usize = 65_537;
@@ -43,6 +43,7 @@ pub fn read_circuit<S: Source>(alloc: Global, input: &mut S) -> Result<Loaded, I
 }
 
 /// Reads the text.
+#[tactic(auto, using(crate::proofs::ReadingLemmas::reads_text))]
 fn read_text<S: Source>(alloc: Global, input: &mut S) -> Result<Vec<u8>, InputFault>
     ensures text { IfOk result (λ text. ReadsText (S.left input.old) (S.left input.new) text.items) }
     ensures never { (fault : CircuitFault) → result ≡ Err (InputFault.Circuit fault) → ⊥ }
@@ -52,8 +53,8 @@ fn read_text<S: Source>(alloc: Global, input: &mut S) -> Result<Vec<u8>, InputFa
     ensures read { result ≡ Err InputFault.Read → Rose (S.faults input.old) (S.faults input.new) }
     ensures later { S.faults input.old ≤ S.faults input.new }
 {
-    let mut text = match Vec::from_elem(alloc, 0, MOST) {
-        Ok(text) => text,
+    let mut text = match room(alloc, MOST) {
+        Ok(room) => room,
         Err(_) => return Err(InputFault::Memory),
     };
     match fill(input, &mut text) {
@@ -63,4 +64,11 @@ fn read_text<S: Source>(alloc: Global, input: &mut S) -> Result<Vec<u8>, InputFa
         }
         Err(_) => Err(InputFault::Read),
     }
+}
+
+/// Room for so many bytes.
+fn room(alloc: Global, size: usize) -> Result<Vec<u8>, AllocError>
+    ensures { IfOk result (λ room. length room.items ≡ size) }
+{
+    vec![in alloc; 0; size]
 }

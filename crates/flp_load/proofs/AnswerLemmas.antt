@@ -1,5 +1,5 @@
 -- No text has two answers.
-use Rattle.std.proofs.Common.{ℕ, ◌<◌, ◌≤◌, ◌≡◌, List, length, Option, None, Some, Result, Ok, Err, refl, sym, ap, ◌∙◌, ◌⊎◌, inl, inr, absurd, arith}
+use Rattle.std.proofs.Common.{ℕ, ◌<◌, ◌≤◌, ◌≡◌, List, length, Option, None, Some, Result, Ok, Err, refl, sym, ap, ◌∙◌, inl, inr, arith}
 use Rattle.std.specs.Prelude.{◌≢◌}
 use Rattle.flp_syntax.specs.declared.syntax.Params.{Params}
 use Rattle.flp_syntax.specs.declared.fault.LangFault.{LangFault}
@@ -15,14 +15,14 @@ use Rattle.flp_circuits.specs.Standard.{standard_program}
 use Rattle.flp_circuits.proofs.Passing.{circuits_pass}
 use Rattle.flp_circuits.proofs.Plans.{plans_are_small}
 use Rattle.flp_circuits.specs.Laws.{circuit_totals}
-use Rattle.flp_check.specs.Verdict.{Totals, verdict}
+use Rattle.flp_check.specs.Verdict.{verdict}
 use Rattle.flp_plan.specs.declared.fault.PlanFault.{PlanFault}
-use Rattle.flp_plan.specs.Counted.{limit_fault, IsSmallCircuit}
+use Rattle.flp_plan.specs.Counted.{limit_fault}
 use Rattle.flp_plan.proofs.CompileLemmas.{no_fault}
 use Rattle.flp_load.specs.declared.fault.CircuitFault.{CircuitFault}
 use Rattle.flp_load.specs.declared.fault.CircuitFault.TheVariants.{Lang, Param, Plan}
-use Rattle.flp_load.specs.Loaded.{IsRead, IsChecked, IsLoaded}
-use Rattle.flp_load.specs.Fault.{IsCheckFault, IsRefused, IsPlanFault, IsCircuitFault}
+use Rattle.flp_load.specs.Loaded.{IsRead, IsLoaded}
+use Rattle.flp_load.specs.Fault.{IsRefused, IsPlanFault, IsCircuitFault}
 
 -- ---- functions have one value
 
@@ -90,7 +90,7 @@ read_not_refused text None c fault p (b, q, _) =
 -- ---- the fault of a text that is not parsed
 
 -- the fault of a verdict; that of a text that is good is nowhere asked for
-fault_at : Verdict → LangFault
+abbrev fault_at : Verdict → LangFault
 fault_at (good text) = lang.Memory
 fault_at (bad k) = lang.Syntax k
 fault_at (deep k) = lang.Depth k

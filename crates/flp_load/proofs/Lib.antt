@@ -1,4 +1,4 @@
--- what the faults of the passes are as faults of loading
+-- what the answers of the passes are as answers of loading
 pub mod FaultLemmas
 -- no text has two answers
 pub mod AnswerLemmas

@@ -35,17 +35,20 @@ pub fn load_circuit(alloc: Global, text: &[u8]) -> Result<Loaded, LoadFault>
     ensures loaded { IfOk result (λ loaded. IsLoaded text.now loaded.params loaded.plan.circuit) }
     ensures fault { IfErr result (IsLoadFault text.now) }
 {
-    match parse(alloc, text) {
-        Ok(Circuit::Standard(params)) => load_standard(alloc, params),
-        Ok(Circuit::Body(body)) => load_body(alloc, body),
-        Err(fault) => Err(from_lang(fault)),
+    let circuit = match parse(alloc, text) {
+        Ok(circuit) => circuit,
+        Err(fault) => return Err(from_lang(fault)),
+    };
+    match circuit {
+        Circuit::Standard(params) => load_standard(alloc, params),
+        Circuit::Body(body) => load_body(alloc, body),
     }
 }
 
 /// Loads a standard circuit.
 fn load_standard(alloc: Global, params: Params) -> Result<Loaded, LoadFault>
-    ensures loaded { IfOk result (λ loaded. (text : List ℕ) → IsParsed text (standard params) → IsLoaded text loaded.params loaded.plan.circuit) }
-    ensures fault { IfErr result (λ fault. (text : List ℕ) → IsParsed text (standard params) → IsLoadFault text fault) }
+    ensures loaded { (text : List ℕ) → IsParsed text (standard params) → IfOk result (λ loaded. IsLoaded text loaded.params loaded.plan.circuit) }
+    ensures fault { (text : List ℕ) → IsParsed text (standard params) → IfErr result (IsLoadFault text) }
 {
     let body = match body_of(alloc, &params) {
         Ok(body) => body,
@@ -63,8 +66,8 @@ fn load_standard(alloc: Global, params: Params) -> Result<Loaded, LoadFault>
 /// Loads a circuit of the text's own.
 fn load_body(alloc: Global, body: Body) -> Result<Loaded, LoadFault>
     requires { ProgramIsWell (program_of body) }
-    ensures loaded { IfOk result (λ loaded. (text : List ℕ) → IsParsed text (program (program_of body)) → IsLoaded text loaded.params loaded.plan.circuit) }
-    ensures fault { IfErr result (λ fault. (text : List ℕ) → IsParsed text (program (program_of body)) → IsLoadFault text fault) }
+    ensures loaded { (text : List ℕ) → IsParsed text (program (program_of body)) → IfOk result (λ loaded. IsLoaded text loaded.params loaded.plan.circuit) }
+    ensures fault { (text : List ℕ) → IsParsed text (program (program_of body)) → IfErr result (IsLoadFault text) }
 {
     match planned(alloc, body) {
         Ok(plan) => Ok(Loaded { params: None, plan }),
@@ -77,7 +80,7 @@ fn planned(alloc: Global, body: Body) -> Result<Plan, LoadFault>
     requires { ProgramIsWell (program_of body) }
     ensures circuit { IfOk result (λ plan. plan.circuit ≡ program_of body) }
     ensures passed { IfOk result (λ plan. IsChecked plan.circuit × (limit_fault plan.circuit ≡ None)) }
-    ensures fault { IfErr result (λ fault. (text : List ℕ) (params : Option Params) → IsRead text params (program_of body) → IsLoadFault text fault) }
+    ensures fault { (text : List ℕ) (params : Option Params) → IsRead text params (program_of body) → IfErr result (IsLoadFault text) }
 {
     let checked = match check(alloc, body) {
         Ok(checked) => checked,

@@ -1,0 +1,2 @@
+-- which bytes of the input are the text
+pub mod ReadingLemmas
