@@ -1,9 +1,13 @@
 -- Which bytes of the input are the text.
-use Rattle.std.proofs.Common.{ℕ, ◌<◌, ◌≤◌, ◌≡◌, List, [], ◌++◌, length, take, Option, None, Some, IfSome, tt, absurd, ⊎_elim, arith}
+use Rattle.std.proofs.Common.{ℕ, ◌<◌, ◌≤◌, List, [], ◌++◌, length, take, Option, None, Some, IfSome, ◌≡◌, ⊎_elim, arith}
 use Rattle.std.specs.Io.KnownBytes.{Consumes, IsAtEnd}
 use Rattle.std.proofs.lemmas.Grind.{common_steps}
 use Rattle.std.proofs.lemmas.Bool.{cases_lt}
-use Rattle.flp_lengths.specs.Reading.{ReadsText}
+use Rattle.flp_syntax.specs.declared.syntax.Params.{Params}
+use Rattle.flp_syntax.specs.Tree.{Program}
+use Rattle.flp_load.specs.Loaded.{IsLoaded}
+use Rattle.flp_load.proofs.AnswerLemmas.{read_parsed}
+use Rattle.flp_lengths.specs.Reading.{ReadsText, ReadsCircuit}
 
 -- known bytes that were read up to a limit, or to their end, are their own front
 front_of_known : (most : ℕ) (bytes rest text : List ℕ) → bytes ≡ text ++ rest → length text ≤ most → (length text < most → rest ≡ []) → text ≡ take most bytes
@@ -18,6 +22,26 @@ front_of most None left' text read few ended = tt
 front_of most (Some bytes) None text read few ended = absurd read
 front_of most (Some bytes) (Some rest) text read few ended = front_of_known most bytes rest text read few ended
 
--- what was read is the text
-pub reads_text : (left left' : Option (List ℕ)) (text : List ℕ) → Consumes left left' text → length text ≤ 65537 → (length text < 65537 → IsAtEnd left') → ReadsText left left' text
-reads_text left left' text read few ended = record { read = read; few = few; ended = ended; front = front_of 65537 left left' text read few ended }
+-- what was read to the front of a buffer is the text
+pub reads_text :
+    (left left' : Option (List ℕ)) (buf : List ℕ) (count : ℕ) → length buf ≡ 65537 → count ≤ length buf
+    → Consumes left left' (take count buf) → (count < length buf → IsAtEnd left') → ReadsText left left' (take count buf)
+reads_text left left' buf count size bound read end =
+    let same : length (take count buf) ≡ count = grind (arith, common_steps) in
+    let few : length (take count buf) ≤ 65537 = omega arith in
+    let ended : length (take count buf) < 65537 → IsAtEnd left' = λ (less : length (take count buf) < 65537). end (omega arith) in
+    record { read = read; few = few; ended = ended; front = front_of 65537 left left' (take count buf) read few ended }
+
+-- a text that is loaded is not too long
+loaded_short : (text : List ℕ) (params : Option Params) (circuit : Program) → IsLoaded text params circuit → length text ≤ 65536
+loaded_short text params circuit loaded =
+    let parsed = read_parsed text params circuit loaded.read in
+    parsed.1.1.0
+
+-- a text that was read and is loaded is the whole input
+pub reads_circuit :
+    (left left' : Option (List ℕ)) (text : List ℕ) (params : Option Params) (circuit : Program) → ReadsText left left' text → IsLoaded text params circuit
+    → ReadsCircuit left left' params circuit
+reads_circuit left left' text params circuit read loaded =
+    let short = loaded_short text params circuit loaded in
+    record { text = text; read = read; ended = read.ended (omega arith); loaded = loaded }

@@ -1,10 +1,12 @@
 //! The circuit text that is the input.
-ghost use Rattle.std.specs.Prelude.{◌≡◌, ◌≤◌, Err, IfOk, length};
-ghost use Rattle.flp_io.specs.Faults.{Rose};
+ghost use Rattle.std.specs.Prelude.{◌≡◌, ◌≢◌, ◌≤◌, Err, IfOk, length, take};
+ghost use Rattle.flp_io.specs.Faults.{Rose, HasCause};
+ghost use Rattle.flp_load.specs.Loaded.{IsLoaded};
+ghost use Rattle.flp_load.specs.Fault.{IsCircuitFault};
 ghost use Rattle.flp_load.specs.declared.fault.CircuitFault.{CircuitFault};
 ghost use Rattle.flp_lengths.specs.Reading.{TakesFew, ReadsText, ReadsCircuit, ReadsFault};
 
-use flp_io::{Source, fill};
+use flp_io::{Failed, Source, fill};
 use flp_load::{CircuitFault, LoadFault, Loaded, load_circuit};
 use std::alloc::{AllocError, Global};
 
@@ -34,41 +36,60 @@ pub fn read_circuit<S: Source>(alloc: Global, input: &mut S) -> Result<Loaded, I
     ensures read { result ≡ Err InputFault.Read → Rose (S.faults input.old) (S.faults input.new) }
     ensures later { S.faults input.old ≤ S.faults input.new }
 {
-    let text = read_text(alloc, input)?;
-    match load_circuit(alloc, &text) {
-        Ok(loaded) => Ok(loaded),
-        Err(LoadFault::Memory) => Err(InputFault::Memory),
-        Err(LoadFault::Circuit(fault)) => Err(InputFault::Circuit(fault)),
+    match make_room(alloc, MOST) {
+        Ok(mut room) => read_into(alloc, input, room.as_mut_slice()),
+        Err(_) => Err(InputFault::Memory),
     }
 }
 
-/// Reads the text.
-#[tactic(auto, using(crate::proofs::ReadingLemmas::reads_text))]
-fn read_text<S: Source>(alloc: Global, input: &mut S) -> Result<Vec<u8>, InputFault>
-    ensures text { IfOk result (λ text. ReadsText (S.left input.old) (S.left input.new) text.items) }
-    ensures never { (fault : CircuitFault) → result ≡ Err (InputFault.Circuit fault) → ⊥ }
+/// Room for so many bytes.
+fn make_room(alloc: Global, size: usize) -> Result<Vec<u8>, AllocError>
+    ensures { IfOk result (λ room. length room.items ≡ size) }
+{
+    vec![in alloc; 0; size]
+}
+
+/// Reads the text into the room, and loads it.
+#[tactic(auto, using(crate::proofs::ReadingLemmas::reads_circuit))]
+fn read_into<S: Source>(alloc: Global, input: &mut S, room: &mut [u8]) -> Result<Loaded, InputFault>
+    requires { length room.old ≡ 65537 }
+    ensures circuit { IfOk result (λ loaded. ReadsCircuit (S.left input.old) (S.left input.new) loaded.params loaded.plan.circuit) }
+    ensures refused { (fault : CircuitFault) → result ≡ Err (InputFault.Circuit fault) → ReadsFault (S.left input.old) (S.left input.new) fault }
 
     // At every outcome.
     ensures few { TakesFew (S.left input.old) (S.left input.new) }
     ensures read { result ≡ Err InputFault.Read → Rose (S.faults input.old) (S.faults input.new) }
     ensures later { S.faults input.old ≤ S.faults input.new }
 {
-    let mut text = match room(alloc, MOST) {
-        Ok(room) => room,
-        Err(_) => return Err(InputFault::Memory),
-    };
-    match fill(input, &mut text) {
-        Ok(count) => {
-            text.truncate(count);
-            Ok(text)
-        }
+    match read_text(input, room) {
+        Ok(count) => load_text(alloc, &room[..count]),
         Err(_) => Err(InputFault::Read),
     }
 }
 
-/// Room for so many bytes.
-fn room(alloc: Global, size: usize) -> Result<Vec<u8>, AllocError>
-    ensures { IfOk result (λ room. length room.items ≡ size) }
+/// Reads the text to the front of the room, and answers its length.
+#[tactic(auto, using(crate::proofs::ReadingLemmas::reads_text))]
+fn read_text<S: Source>(input: &mut S, room: &mut [u8]) -> Result<usize, Failed>
+    requires { length room.old ≡ 65537 }
+    ensures fits { IfOk result (λ count. count ≤ length room.new) }
+    ensures text { IfOk result (λ count. ReadsText (S.left input.old) (S.left input.new) (take count room.new)) }
+
+    // At both outcomes.
+    ensures few { TakesFew (S.left input.old) (S.left input.new) }
+    ensures cause { HasCause (S.faults input.old) (S.faults input.new) result }
 {
-    vec![in alloc; 0; size]
+    fill(input, room)
+}
+
+/// Loads the text.
+fn load_text(alloc: Global, text: &[u8]) -> Result<Loaded, InputFault>
+    ensures loaded { IfOk result (λ loaded. IsLoaded text.now loaded.params loaded.plan.circuit) }
+    ensures refused { (fault : CircuitFault) → result ≡ Err (InputFault.Circuit fault) → IsCircuitFault text.now fault }
+    ensures not_read { result ≢ Err InputFault.Read }
+{
+    match load_circuit(alloc, text) {
+        Ok(loaded) => Ok(loaded),
+        Err(LoadFault::Memory) => Err(InputFault::Memory),
+        Err(LoadFault::Circuit(fault)) => Err(InputFault::Circuit(fault)),
+    }
 }
