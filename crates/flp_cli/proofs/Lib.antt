@@ -6,4 +6,5 @@ pub mod OutcomeLemmas
 pub mod PartLemmas
 pub mod ProgressLemmas
 pub mod ReplyLemmas
+pub mod RunLemmas
 pub mod StatusLemmas

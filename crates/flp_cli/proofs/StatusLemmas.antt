@@ -1,13 +1,15 @@
 -- Which fault a status came from, and which status the bytes of the input decide.
-use Rattle.std.proofs.Common.{◌≡◌, ℕ, ◌++◌, Option, Some, None, List, [], refl, sym, ap, subst, ◌∙◌, inl, inr, ◌⊎◌, arith, rules, append-nil}
+use Rattle.std.proofs.Common.{◌≡◌, ℕ, ◌++◌, Option, Some, None, List, [], ◌∷◌, refl, sym, ap, subst, ◌∙◌, inl, inr, ◌⊎◌, arith, rules, append-nil}
 use Rattle.std.specs.Prelude.{IfSome, IsTrue}
 use Rattle.std.specs.Io.KnownBytes.{Appends, Keeps}
 use Rattle.flp_report.specs.declared.count_fault.CountFault.TheVariants as read
 use Rattle.flp_report.specs.declared.count_fault.CountBatchFault.{CountBatchFault}
 use Rattle.flp_report.specs.CountBatch.{fault_of}
+use Rattle.flp_lengths.specs.declared.command.LengthsFault.{LengthsFault}
+use Rattle.flp_lengths.specs.declared.command.LengthsFault.TheVariants as lengths
 use Rattle.flp_cli.specs.declared.fault.Fault.{Fault}
 use Rattle.flp_cli.specs.declared.fault.Fault.TheVariants.{Memory, Read, Write, NotBuilt, Batch}
-use Rattle.flp_cli.specs.Answers.{is_status, status_of, status_for}
+use Rattle.flp_cli.specs.Answers.{is_among, is_status, status_of, status_for, lengths_status}
 use Rattle.flp_cli.specs.Reply.{WritesText}
 
 pub status-read : (f : Fault) → status_of f ≡ 4 → f ≡ Read
@@ -63,7 +65,7 @@ whole-read (Some xs) (Some ys) taken taken' bytes is done =
     ap (λ (b : List ℕ). status_for (fault_of b)) (sym same ∙ all) ∙ ap status_for done.is_batch
 
 -- a fact of the bytes that a source tells
-told : (left : Option (List ℕ)) (bytes : List ℕ) (P : List ℕ → Type 0) → left ≡ Some bytes → IfSome left P → P bytes
+pub told : (left : Option (List ℕ)) (bytes : List ℕ) (P : List ℕ → Type 0) → left ≡ Some bytes → IfSome left P → P bytes
 told None bytes P is fact = cc
 told (Some xs) bytes P is fact = let same : xs ≡ bytes = cc in subst P same fact
 
@@ -80,13 +82,34 @@ decided NotBuilt left bytes is not_read not_write refused not_built =
 decided (Batch why) left bytes is not_read not_write refused not_built =
     inr (sym (ap status_for (told left bytes (λ b. fault_of b ≡ Some (read.Batch why)) is (refused why refl))))
 
--- each fault has one of the statuses
-pub known-fault : (f : Fault) → IsTrue (is_status (status_of f))
+-- each fault has one of the statuses of `verify`
+pub known-fault : (f : Fault) → IsTrue (is_among (status_of f) (0 ∷ 3 ∷ 4 ∷ 5 ∷ 6 ∷ 10 ∷ []))
 known-fault Memory = search rules
 known-fault Read = search rules
 known-fault Write = search rules
 known-fault NotBuilt = search rules
 known-fault (Batch why) = search rules
+
+-- each of those is a status
+pub status-known : (f : Fault) → IsTrue (is_status (status_of f))
+status-known Memory = search rules
+status-known Read = search rules
+status-known Write = search rules
+status-known NotBuilt = search rules
+status-known (Batch why) = search rules
+
+-- each fault of `lengths` has a status, and not that of words without a job
+pub lengths_status-known : (f : LengthsFault) → IsTrue (is_status (lengths_status f))
+lengths_status-known lengths.Memory = search rules
+lengths_status-known lengths.Read = search rules
+lengths_status-known lengths.Write = search rules
+lengths_status-known (lengths.Circuit why) = search rules
+
+pub lengths_status-some : (f : LengthsFault) → lengths_status f ≡ 2 → ⊥
+lengths_status-some lengths.Memory is = omega arith
+lengths_status-some lengths.Read is = omega arith
+lengths_status-some lengths.Write is = omega arith
+lengths_status-some (lengths.Circuit why) is = omega arith
 
 -- bytes that stay grow by none
 pub Appends-nothing : (a b : Option (List ℕ)) → Keeps a b → Appends a b []

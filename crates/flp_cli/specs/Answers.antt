@@ -1,22 +1,24 @@
 -- What the program answers besides the text: the exit status, and the line on the error output.
-use Rattle.std.specs.Prelude.{◌≡◌, ℕ, Bool, List, [], ◌∷◌, ◌++◌, Option, Some, None, ◌==◌, if◌then◌else◌, codes, decimal, length, drop}
+use Rattle.std.specs.Prelude.{ℕ, Bool, List, [], ◌∷◌, ◌++◌, Option, Some, None, ◌==◌, if◌then◌else◌, codes, decimal}
 use Rattle.std.specs.List.{list_any}
 use Rattle.flp_report.specs.declared.count_fault.CountFault.{CountFault}
 use Rattle.flp_report.specs.declared.count_fault.CountFault.TheVariants as read
 use Rattle.flp_report.specs.declared.count_fault.CountBatchFault.TheVariants.{Truncated, Trailing}
+use Rattle.flp_lines.specs.Circuit.{circuit_line}
+use Rattle.flp_lengths.specs.declared.command.LengthsFault.{LengthsFault}
+use Rattle.flp_lengths.specs.declared.command.LengthsFault.TheVariants as lengths
 use Rattle.flp_cli.specs.declared.fault.Fault.{Fault}
 use Rattle.flp_cli.specs.declared.fault.Fault.TheVariants.{Memory, Read, Write, NotBuilt, Batch}
 
--- the one job: behind the program's name come these three words
-pub record IsJob (words : List (List ℕ)) : Type 0 where
-  pub number : length words ≡ 4
-  pub words_are : drop 1 words ≡ codes "verify" ∷ codes "--workers" ∷ codes "1" ∷ []
+-- the status is one of these
+abbrev pub is_among : ℕ → List ℕ → Bool
+is_among status statuses = list_any (λ s. s == status) statuses
 
 -- the exit statuses that there are
 abbrev pub is_status : ℕ → Bool
-is_status n = list_any (λ s. s == n) (0 ∷ 2 ∷ 3 ∷ 4 ∷ 5 ∷ 6 ∷ 10 ∷ [])
+is_status status = is_among status (0 ∷ 2 ∷ 3 ∷ 4 ∷ 5 ∷ 6 ∷ 7 ∷ 10 ∷ [])
 
--- the exit status of each fault
+-- the exit status of each fault of `verify`
 abbrev pub status_of : Fault → ℕ
 status_of Memory = 3
 status_of Read = 4
@@ -40,7 +42,7 @@ usage_line = codes "flp: usage: flp verify, prove, lengths, prep, explain or tri
 abbrev pub truncated_line : ℕ → ℕ → List ℕ
 truncated_line have need = (codes "flp: batch: truncated " ++ decimal have) ++ (codes " " ++ decimal need) ++ codes "\n"
 
--- the line of each fault
+-- the line of each fault of `verify`
 abbrev pub line_of_fault : Fault → List ℕ
 line_of_fault Memory = codes "flp: no memory\n"
 line_of_fault Read = codes "flp: read fault\n"
@@ -49,7 +51,21 @@ line_of_fault NotBuilt = codes "flp: not built\n"
 line_of_fault (Batch (Truncated have need)) = truncated_line have need
 line_of_fault (Batch Trailing) = codes "flp: batch: trailing\n"
 
--- the line of each status but 6, whose line tells the fault of the batch
+-- the exit status of each fault of `lengths`
+abbrev pub lengths_status : LengthsFault → ℕ
+lengths_status lengths.Memory = 3
+lengths_status lengths.Read = 4
+lengths_status lengths.Write = 5
+lengths_status (lengths.Circuit fault) = 7
+
+-- the line of each fault of `lengths`
+abbrev pub lengths_line : LengthsFault → List ℕ
+lengths_line lengths.Memory = line_of_fault Memory
+lengths_line lengths.Read = line_of_fault Read
+lengths_line lengths.Write = line_of_fault Write
+lengths_line (lengths.Circuit fault) = circuit_line fault
+
+-- the line of each status but 6 and 7, whose lines tell the fault of the batch and of the circuit
 abbrev pub line_for : ℕ → List ℕ
 line_for status =
     if status == 2 then usage_line

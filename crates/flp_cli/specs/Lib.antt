@@ -8,3 +8,5 @@ pub mod Verdicts
 pub mod Count
 pub mod Policy
 pub mod Fault
+pub mod Stream
+pub mod Runs

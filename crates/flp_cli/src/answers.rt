@@ -1,21 +1,16 @@
 //! The exit statuses and the lines on the error output.
-ghost use Rattle.std.specs.Prelude.{◌≡◌, ◌↔◌, ◌++◌, map, decimal, IsTrue, OnOk};
+ghost use Rattle.std.specs.Prelude.{◌≡◌, OnOk};
 ghost use Rattle.std.specs.Io.KnownBytes.{Appends};
 ghost use Rattle.flp_io.specs.Faults.{HasCause};
-ghost use Rattle.flp_cli.specs.Answers.{IsJob, status_of, truncated_line, line_of_fault};
+ghost use Rattle.flp_cli.specs.Answers.{status_of, truncated_line, line_of_fault, lengths_status, lengths_line, usage_line};
 
 use crate::fault::Fault;
 use flp_io::{Failed, Sink, put};
+use flp_lengths::LengthsFault;
+use flp_lines::{put_circuit_fault, put_numbered};
 use flp_report::CountBatchFault;
 
-/// Whether the words of the command line are the job that is built.
-pub fn is_job(words: &[&str]) -> bool
-    ensures { IsTrue result ↔ IsJob (map (λ w. w.now) words.now) }
-{
-    matches!(words, [_, "verify", "--workers", "1"])
-}
-
-/// The exit status of a fault.
+/// The exit status of a fault of `verify`.
 pub fn status(fault: Fault) -> u8
     ensures { result ≡ status_of fault }
 {
@@ -28,28 +23,17 @@ pub fn status(fault: Fault) -> u8
     }
 }
 
-/// Writes a text and then a number in decimal digits.
-#[tactic(auto, using(flp_io::proofs::WriteLemmas::writes_join))]
-fn put_number<E: Sink>(errors: &mut E, text: &[u8], number: u64) -> Result<(), Failed>
-    ensures bytes { OnOk result (Appends (E.taken errors.old) (E.taken errors.new) (text.now ++ decimal number)) }
-    ensures cause { HasCause (E.faults errors.old) (E.faults errors.new) result }
-{
-    put(errors, text)?;
-    let mut digits = itoa::Buffer::new();
-    put(errors, digits.format(number).as_bytes())
-}
-
 /// Writes the line of an input that ended too early.
 fn put_truncated<E: Sink>(errors: &mut E, have: u64, need: u64) -> Result<(), Failed>
     ensures bytes { OnOk result (Appends (E.taken errors.old) (E.taken errors.new) (truncated_line have need)) }
     ensures cause { HasCause (E.faults errors.old) (E.faults errors.new) result }
 {
-    put_number(errors, b"flp: batch: truncated ", have)?;
-    put_number(errors, b" ", need)?;
+    put_numbered(errors, b"flp: batch: truncated ", have)?;
+    put_numbered(errors, b" ", need)?;
     put(errors, b"\n")
 }
 
-/// Writes the line of a fault. It takes no memory.
+/// Writes the line of a fault of `verify`. It takes no memory.
 pub fn put_fault<E: Sink>(errors: &mut E, fault: Fault) -> Result<(), Failed>
     ensures bytes { OnOk result (Appends (E.taken errors.old) (E.taken errors.new) (line_of_fault fault)) }
     ensures cause { HasCause (E.faults errors.old) (E.faults errors.new) result }
@@ -62,4 +46,40 @@ pub fn put_fault<E: Sink>(errors: &mut E, fault: Fault) -> Result<(), Failed>
         Fault::Batch(CountBatchFault::Trailing) => put(errors, b"flp: batch: trailing\n"),
         Fault::Batch(CountBatchFault::Truncated(have, need)) => put_truncated(errors, have, need),
     }
+}
+
+/// The exit status of a fault of `lengths`.
+pub fn lengths_status(fault: LengthsFault) -> u8
+    ensures { result ≡ lengths_status fault }
+{
+    match fault {
+        LengthsFault::Memory => 3,
+        LengthsFault::Read => 4,
+        LengthsFault::Write => 5,
+        LengthsFault::Circuit(_) => 7,
+    }
+}
+
+/// Writes the line of a fault of `lengths`. It takes no memory.
+pub fn put_lengths_fault<E: Sink>(errors: &mut E, fault: LengthsFault) -> Result<(), Failed>
+    ensures bytes { OnOk result (Appends (E.taken errors.old) (E.taken errors.new) (lengths_line fault)) }
+    ensures cause { HasCause (E.faults errors.old) (E.faults errors.new) result }
+{
+    match fault {
+        LengthsFault::Memory => put_fault(errors, Fault::Memory),
+        LengthsFault::Read => put_fault(errors, Fault::Read),
+        LengthsFault::Write => put_fault(errors, Fault::Write),
+        LengthsFault::Circuit(fault) => put_circuit_fault(errors, fault),
+    }
+}
+
+/// Writes the line of words that are no job. It takes no memory.
+pub fn put_usage<E: Sink>(errors: &mut E) -> Result<(), Failed>
+    ensures bytes { OnOk result (Appends (E.taken errors.old) (E.taken errors.new) usage_line) }
+    ensures cause { HasCause (E.faults errors.old) (E.faults errors.new) result }
+{
+    put(
+        errors,
+        b"flp: usage: flp verify, prove, lengths, prep, explain or trial\n",
+    )
 }

@@ -1,18 +1,21 @@
 //! The program `flp` as one call over a source and two sinks.
 //!
-//! [`run`] reads the words of the command line, reads a batch of reports from its input, writes one
-//! verdict a report, the count of accepted reports and their aggregate, and answers the exit
-//! status. Its contract says which text it writes, as a function of the bytes that it reads
-//! (`specs/`, from `Text.antt` down), and when each status comes.
+//! [`run`] reads the words of the command line, does the job that they name, and answers the exit
+//! status. Its contract says what each command does, as one record of named facts a command
+//! (`specs/Runs.antt`): which text it writes, by the bytes that it reads, and when each status
+//! comes.
 //!
-//! Today the one command is `verify --workers 1`, for batches of Count reports: each report proves
-//! in two shares that its number is 0 or 1. The definitions of that proof are in
+//! `verify` reads a batch of reports and writes one verdict a report, the count of accepted reports
+//! and their aggregate (`specs/Text.antt`). Today it takes batches of Count reports: each report
+//! proves in two shares that its number is 0 or 1. The definitions of that proof are in
 //! `specs/Count.antt`, after Boneh et al., "Zero-Knowledge Proofs on Secret-Shared Data via Fully
-//! Linear PCPs" (CRYPTO 2019), and the chapters on FLPs of the VDAF draft.
+//! Linear PCPs" (CRYPTO 2019), and the chapters on FLPs of the VDAF draft. `lengths` reads a circuit
+//! text and writes the lengths of its circuit; its text is defined in `flp_lengths`.
 #![tactic(auto)]
 
 mod answers;
 mod claim;
+mod commands;
 mod fault;
 mod program;
 mod progress;

@@ -13,6 +13,8 @@ const P: u64 = 18446744069414584321;
 
 const VERIFY: [&str; 4] = ["flp", "verify", "--workers", "1"];
 
+const LENGTHS: [&str; 2] = ["flp", "lengths"];
+
 // How the file of a batch begins, up to the number of reports.
 const HEAD: [u8; 28] = *b"FLPBATCH\x01\0\0\0\x02\0\0\0\x01\0\0\0\x0a\0\0\0\0\0\0\0";
 
@@ -236,7 +238,7 @@ fn words_that_are_no_job(rt: HostRuntime) -> Result<(), Fail> {
         &["flp", "verify", "--workers", "0"],
         &["flp", "verify", "--workers", "17"],
         &["flp", "verify", "--workers", "1", "--workers", "1"],
-        &["flp", "verify", "--workers=1"],
+        &["flp", "verify", "--workers", "00000000001"],
         &["flp", "prove", "--workers", "1"],
     ];
     for words in lists {
@@ -465,6 +467,147 @@ fn faults_of_errors_change_no_status(rt: HostRuntime) -> Result<(), Fail> {
         let status = run_on(&rt, rt.alloc(), words, &mut input, &mut output, &mut errors)?;
         assert_eq!(rt; status, wanted);
         assert_eq!(rt; errors.taken(), b"".as_slice());
+    }
+    Ok(())
+}
+
+// Each number of workers is served alike.
+#[test]
+fn numbers_of_workers(rt: HostRuntime) -> Result<(), Fail> {
+    let lists: [&[&str]; 3] = [
+        &["flp", "verify", "--workers", "16"],
+        &["flp", "verify", "--workers=7"],
+        &["flp", "verify", "--workers", "0000000002"],
+    ];
+    for words in lists {
+        let mut input = source(rt.alloc(), batch(rt.alloc(), &[(0, HONEST)])?);
+        let mut output = sink(rt.alloc())?;
+        let mut errors = sink(rt.alloc())?;
+        let status = run_on(&rt, rt.alloc(), words, &mut input, &mut output, &mut errors)?;
+        assert_eq!(rt; status, 0);
+        assert_eq!(rt; output.taken(), TEXT);
+    }
+    Ok(())
+}
+
+// What `lengths` answers, writes and says of a circuit text.
+#[derive(Drop)]
+struct Circuit<'a> {
+    text: &'a [u8],
+    blanks: usize,
+    status: u8,
+    written: &'a [u8],
+    line: &'a [u8],
+}
+
+#[test]
+fn lengths_of_circuits(rt: HostRuntime) -> Result<(), Fail> {
+    let circuits = [
+        Circuit {
+            text: b"use sum max=5;",
+            blanks: 0,
+            status: 0,
+            written: b"meas 6\njoint 0\nprove 1\nquery 8\nproof 16\nverifier 3\nouts 1\n",
+            line: b"",
+        },
+        Circuit {
+            text: b"use histogram length=5 chunk=2;",
+            blanks: 0,
+            status: 0,
+            written: b"meas 5\njoint 3\nprove 4\nquery 3\nproof 11\nverifier 6\nouts 5\n",
+            line: b"",
+        },
+        Circuit {
+            text: b"use median;",
+            blanks: 0,
+            status: 7,
+            written: b"",
+            line: b"flp: circuit: syntax 1\n",
+        },
+        Circuit {
+            text: b"",
+            blanks: 65536,
+            status: 7,
+            written: b"",
+            line: b"flp: circuit: syntax 0\n",
+        },
+        Circuit {
+            text: b"use count;",
+            blanks: 65527,
+            status: 7,
+            written: b"",
+            line: b"flp: circuit: text length 65537\n",
+        },
+        Circuit {
+            text: b"use count;",
+            blanks: 70000,
+            status: 7,
+            written: b"",
+            line: b"flp: circuit: text length 65537\n",
+        },
+        Circuit {
+            text: b"use sum max=0;",
+            blanks: 0,
+            status: 7,
+            written: b"",
+            line: b"flp: circuit: zero max\n",
+        },
+        Circuit {
+            text: b"use sum max=9223372036854775808;",
+            blanks: 0,
+            status: 7,
+            written: b"",
+            line: b"flp: circuit: too large max 9223372036854775808\n",
+        },
+    ];
+    for circuit in &circuits {
+        let mut bytes = circuit.text.to_vec(rt.alloc())?;
+        let size = bytes.len().saturating_add(circuit.blanks);
+        bytes.resize(size, b' ')?;
+        let mut input = source(rt.alloc(), bytes);
+        let mut output = sink(rt.alloc())?;
+        let mut errors = sink(rt.alloc())?;
+        let status = run_on(
+            &rt,
+            rt.alloc(),
+            &LENGTHS,
+            &mut input,
+            &mut output,
+            &mut errors,
+        )?;
+        assert_eq!(rt; status, circuit.status);
+        assert_eq!(rt; output.taken(), circuit.written);
+        assert_eq!(rt; errors.taken(), circuit.line);
+    }
+    Ok(())
+}
+
+// The input is read a byte a call and the lines are written so, and one call fails.
+#[test]
+fn failures_of_lengths(rt: HostRuntime) -> Result<(), Fail> {
+    let calls: [(u64, u64, u8, &[u8], &[u8]); 4] = [
+        (0, 99, 4, b"", b"flp: read fault\n"),
+        (10, 99, 4, b"", b"flp: read fault\n"),
+        (99, 0, 5, b"", b"flp: write fault\n"),
+        (99, 8, 5, b"meas 1\nj", b"flp: write fault\n"),
+    ];
+    for (read, write, wanted, written, line) in calls {
+        let bytes = b"use count;".as_slice().to_vec(rt.alloc())?;
+        let mut input = MemorySource::new(bytes, 1, [read].to_vec(rt.alloc())?);
+        let mut output = MemorySink::new(rt.alloc(), 1, [write].to_vec(rt.alloc())?);
+        output.reserve(4096)?;
+        let mut errors = sink(rt.alloc())?;
+        let status = run_on(
+            &rt,
+            rt.alloc(),
+            &LENGTHS,
+            &mut input,
+            &mut output,
+            &mut errors,
+        )?;
+        assert_eq!(rt; status, wanted);
+        assert_eq!(rt; output.taken(), written);
+        assert_eq!(rt; errors.taken(), line);
     }
     Ok(())
 }

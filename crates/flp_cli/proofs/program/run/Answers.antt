@@ -1,48 +1,31 @@
-use Rattle.std.proofs.Common.{◌∙◌, ℕ, Err, inr, sym, ap, subst}
-use Rattle.std.specs.Prelude.{IsTrue}
-use Rattle.std.specs.Io.KnownBytes.{Appends}
-use Rattle.flp_cli.specs.declared.fault.Fault.{Fault}
-use Rattle.flp_cli.specs.Answers.{is_status, line_of_fault}
-use Rattle.flp_cli.proofs.StatusLemmas.{status-batch, whole-read, decided, known-fault, Appends-nothing}
 use Rattle.flp_cli.proofs.LawLemmas.{judges_once, accepts_honest}
+use Rattle.flp_cli.proofs.RunLemmas.{verify-unread}
 use Rattle.flp_cli.proofs.program.run.Goals as goal
 
-pub returns-in-Ok-clause-complete : goal.returns-in-Ok-clause-complete
-returns-in-Ok-clause-complete g c = λ job bytes is quiet_in quiet_out.
-    inr (sym (whole-read _ _ _ _ bytes is c.in-Ok.ensures.done))
+pub returns-in-Ok-Some-Verify-clause-verify : goal.returns-in-Ok-Some-Verify-clause-verify
+returns-in-Ok-Some-Verify-clause-verify g c = λ workers is. c.run_verify.ensures.runs _
 
-pub returns-in-Ok-clause-line : goal.returns-in-Ok-clause-line
-returns-in-Ok-clause-line g c = λ quiet other. Appends-nothing _ _ (c.in-Ok.ensures.line quiet)
+-- no memory for the words
+pub returns-clause-verify : goal.returns-clause-verify
+returns-clause-verify g c = λ workers is. verify-unread _ _ _ _ _ _
 
-pub returns-clause-known : goal.returns-clause-known
-returns-clause-known g c = let P : ℕ → Type 0 = λ n. IsTrue (is_status n) in subst P (sym c.status.ensures) (known-fault c.in-Err.fault)
+pub returns-in-Ok-Some-Verify-clause-once : goal.returns-in-Ok-Some-Verify-clause-once
+returns-in-Ok-Some-Verify-clause-once g c = judges_once
 
-pub returns-clause-refused : goal.returns-clause-refused
-returns-clause-refused g c = λ is.
-    let why = status-batch c.in-Err.fault (sym c.status.ensures ∙ is) in
-    let P : Fault → Type 0 = λ f. Appends (g.E.Sink.taken c.args.errors.now) (g.E.Sink.taken c.do_verify.new.errors) (line_of_fault f) in
-    (why.0, c.in-Err.ensures.refused why.0 (ap Err why.1), λ quiet. subst P why.1 (c.in-Err.ensures.line quiet))
+pub returns-in-Ok-Some-Verify-clause-honest : goal.returns-in-Ok-Some-Verify-clause-honest
+returns-in-Ok-Some-Verify-clause-honest g c = accepts_honest
 
-pub returns-clause-complete : goal.returns-clause-complete
-returns-clause-complete g c = λ job bytes is quiet_in quiet_out.
-    let answer = c.in-Err.ensures in
-    rw c.status.ensures (decided c.in-Err.fault (g.S.Source.left c.args.input.now) bytes is
-    (λ read. quiet_in (answer.read (ap Err read)))
-    (λ write. quiet_out (answer.write (ap Err write)))
-    (λ why batch. answer.refused why (ap Err batch))
-    (λ not_built. answer.not_built (ap Err not_built)))
+pub returns-in-Ok-Some-Lengths-clause-once : goal.returns-in-Ok-Some-Lengths-clause-once
+returns-in-Ok-Some-Lengths-clause-once g c = judges_once
 
-pub returns-then-not-is_job-clause-once : goal.returns-then-not-is_job-clause-once
-returns-then-not-is_job-clause-once g c = judges_once
+pub returns-in-Ok-Some-Lengths-clause-honest : goal.returns-in-Ok-Some-Lengths-clause-honest
+returns-in-Ok-Some-Lengths-clause-honest g c = accepts_honest
 
-pub returns-then-not-is_job-clause-honest : goal.returns-then-not-is_job-clause-honest
-returns-then-not-is_job-clause-honest g c = accepts_honest
+pub returns-in-Ok-None-clause-once : goal.returns-in-Ok-None-clause-once
+returns-in-Ok-None-clause-once g c = judges_once
 
-pub returns-in-Ok-clause-once : goal.returns-in-Ok-clause-once
-returns-in-Ok-clause-once g c = judges_once
-
-pub returns-in-Ok-clause-honest : goal.returns-in-Ok-clause-honest
-returns-in-Ok-clause-honest g c = accepts_honest
+pub returns-in-Ok-None-clause-honest : goal.returns-in-Ok-None-clause-honest
+returns-in-Ok-None-clause-honest g c = accepts_honest
 
 pub returns-clause-once : goal.returns-clause-once
 returns-clause-once g c = judges_once

@@ -1,0 +1,26 @@
+-- An input or an output over a run: what it tells, before and after.
+use Rattle.std.specs.Prelude.{ℕ, List, Option}
+use Rattle.std.specs.Io.KnownBytes.{Appends}
+use Rattle.flp_io.specs.Faults.{Rose}
+
+-- the bytes that an input has left or that an output has taken, and how often it failed so far
+pub record Stream : Type 0 where
+  pub old : Option (List ℕ)
+  pub new : Option (List ℕ)
+  pub faults : ℕ
+  pub faults_now : ℕ
+
+abbrev pub stream : Option (List ℕ) → Option (List ℕ) → ℕ → ℕ → Stream
+stream old new faults faults_now = record { old = old; new = new; faults = faults; faults_now = faults_now }
+
+-- it failed in the run
+abbrev pub Failed : Stream → Type 0
+Failed s = Rose s.faults s.faults_now
+
+-- it did not fail in the run
+abbrev pub IsQuiet : Stream → Type 0
+IsQuiet s = Failed s → ⊥
+
+-- where the error output did not fail, it took this line
+abbrev pub Says : Stream → List ℕ → Type 0
+Says errors line = IsQuiet errors → Appends errors.old errors.new line

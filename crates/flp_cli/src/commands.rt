@@ -1,0 +1,128 @@
+//! The commands, each with the line that it says where it fails, and its status.
+ghost use Rattle.std.specs.Prelude.{◌≡◌, ◌≢◌, ◌⊎◌, ℕ, Bool, List, Ok, Err, Some, MatchResult, OnOk, OnErr, IfSome, IsTrue};
+ghost use Rattle.std.specs.Io.KnownBytes.{Appends, Keeps};
+ghost use Rattle.flp_io.specs.Faults.{Rose};
+ghost use Rattle.flp_report.specs.CountBatch.{fault_of};
+ghost use Rattle.flp_report.specs.declared.count_fault.CountBatchFault.{CountBatchFault};
+ghost use Rattle.flp_load.specs.declared.fault.CircuitFault.{CircuitFault};
+ghost use Rattle.flp_lengths.specs.Reading.{TakesFew};
+ghost use Rattle.flp_lengths.specs.Reply.{WritesLengths, StopsInLengths, RefusesText};
+ghost use Rattle.flp_cli.specs.Answers.{is_status, line_of_fault, lengths_line, line_for};
+ghost use Rattle.flp_cli.specs.Policy.{Counts};
+ghost use Rattle.flp_cli.specs.Reply.{WritesText, StopsInText, StopsEarly};
+ghost use Rattle.flp_cli.specs.Stream.{stream};
+ghost use Rattle.flp_cli.specs.Runs.{RunsVerify, RunsLengths};
+
+use crate::answers::{lengths_status, put_fault, put_lengths_fault, status};
+use crate::fault::Fault;
+use crate::verify::verify;
+use flp_io::{Sink, Source};
+use flp_lengths::{LengthsFault, lengths};
+use flp_load::laws::one_answer;
+use flp_report::CountFault;
+use std::alloc::Global;
+
+/// Does `verify`, and says on `errors` why where it fails.
+fn do_verify<S: Source, K: Sink, E: Sink>(
+    alloc: Global,
+    input: &mut S,
+    output: &mut K,
+    errors: &mut E,
+) -> Result<(), Fault>
+    ensures done { OnOk result (WritesText (S.left input.old) (S.left input.new) (K.taken output.old) (K.taken output.new)) }
+    ensures stopped { OnErr result (StopsEarly (S.left input.old) (S.left input.new) (K.taken output.old) (K.taken output.new)
+        ⊎ ((result ≡ Err Fault.Write) × StopsInText (S.left input.old) (S.left input.new) (K.taken output.old) (K.taken output.new))) }
+    ensures refused { (fault : CountBatchFault) → result ≡ Err (Fault.Batch fault)
+        → IfSome (S.left input.old) (λ bytes. fault_of bytes ≡ Some (CountFault.Batch fault)) }
+    ensures not_built { result ≡ Err Fault.NotBuilt → IfSome (S.left input.old) (λ bytes. fault_of bytes ≡ Some CountFault.NotBuilt) }
+    ensures not_written { result ≡ Err Fault.NotBuilt → Keeps (K.taken output.old) (K.taken output.new) }
+    ensures read { result ≡ Err Fault.Read → Rose (S.faults input.old) (S.faults input.new) }
+    ensures write { result ≡ Err Fault.Write → Rose (K.faults output.old) (K.faults output.new) }
+    ensures line { (Rose (E.faults errors.old) (E.faults errors.new) → ⊥) → MatchResult result
+        (λ _. Keeps (E.taken errors.old) (E.taken errors.new)) (λ fault. Appends (E.taken errors.old) (E.taken errors.new) (line_of_fault fault)) }
+{
+    match verify(alloc, input, output) {
+        Ok(()) => Ok(()),
+        Err(fault) => {
+            let _said = put_fault(errors, fault);
+            Err(fault)
+        }
+    }
+}
+
+/// Runs `verify`, and gives the status.
+pub fn run_verify<S: Source, K: Sink, E: Sink>(
+    alloc: Global,
+    input: &mut S,
+    output: &mut K,
+    errors: &mut E,
+) -> u8
+    ensures runs { (would : Counts → List Bool) → RunsVerify would
+        (stream (S.left input.old) (S.left input.new) (S.faults input.old) (S.faults input.new))
+        (stream (K.taken output.old) (K.taken output.new) (K.faults output.old) (K.faults output.new))
+        (stream (E.taken errors.old) (E.taken errors.new) (E.faults errors.old) (E.faults errors.new)) result }
+    ensures known { IsTrue (is_status result) }
+    ensures had_job { result ≢ 2 }
+    ensures read { result ≡ 4 → Rose (S.faults input.old) (S.faults input.new) }
+    ensures write { result ≡ 5 → Rose (K.faults output.old) (K.faults output.new) }
+    ensures line { (Rose (E.faults errors.old) (E.faults errors.new) → ⊥) → result ≢ 6 → result ≢ 7
+        → Appends (E.taken errors.old) (E.taken errors.new) (line_for result) }
+{
+    match do_verify(alloc, input, output, errors) {
+        Ok(()) => 0,
+        Err(fault) => status(fault),
+    }
+}
+
+/// Does `lengths`, and says on `errors` why where it fails.
+fn do_lengths<S: Source, K: Sink, E: Sink>(
+    alloc: Global,
+    input: &mut S,
+    output: &mut K,
+    errors: &mut E,
+) -> Result<(), LengthsFault>
+    ensures done { OnOk result (WritesLengths (S.left input.old) (S.left input.new) (K.taken output.old) (K.taken output.new)) }
+    ensures refused { (fault : CircuitFault) → result ≡ Err (LengthsFault.Circuit fault)
+        → RefusesText (S.left input.old) (S.left input.new) (K.taken output.old) (K.taken output.new) fault }
+    ensures stopped { result ≡ Err LengthsFault.Write
+        → StopsInLengths (S.left input.old) (S.left input.new) (K.taken output.old) (K.taken output.new) }
+    ensures not_written { (result ≡ Err LengthsFault.Memory) ⊎ (result ≡ Err LengthsFault.Read) → Keeps (K.taken output.old) (K.taken output.new) }
+    ensures read { result ≡ Err LengthsFault.Read → Rose (S.faults input.old) (S.faults input.new) }
+    ensures write { result ≡ Err LengthsFault.Write → Rose (K.faults output.old) (K.faults output.new) }
+    ensures few { TakesFew (S.left input.old) (S.left input.new) }
+    ensures line { (Rose (E.faults errors.old) (E.faults errors.new) → ⊥) → MatchResult result
+        (λ _. Keeps (E.taken errors.old) (E.taken errors.new)) (λ fault. Appends (E.taken errors.old) (E.taken errors.new) (lengths_line fault)) }
+{
+    match lengths(alloc, input, output) {
+        Ok(()) => Ok(()),
+        Err(fault) => {
+            let _said = put_lengths_fault(errors, fault);
+            Err(fault)
+        }
+    }
+}
+
+/// Runs `lengths`, and gives the status.
+pub fn run_lengths<S: Source, K: Sink, E: Sink>(
+    alloc: Global,
+    input: &mut S,
+    output: &mut K,
+    errors: &mut E,
+) -> u8
+    ensures runs { RunsLengths
+        (stream (S.left input.old) (S.left input.new) (S.faults input.old) (S.faults input.new))
+        (stream (K.taken output.old) (K.taken output.new) (K.faults output.old) (K.faults output.new))
+        (stream (E.taken errors.old) (E.taken errors.new) (E.faults errors.old) (E.faults errors.new)) result }
+    ensures known { IsTrue (is_status result) }
+    ensures had_job { result ≢ 2 }
+    ensures read { result ≡ 4 → Rose (S.faults input.old) (S.faults input.new) }
+    ensures write { result ≡ 5 → Rose (K.faults output.old) (K.faults output.new) }
+    ensures line { (Rose (E.faults errors.old) (E.faults errors.new) → ⊥) → result ≢ 6 → result ≢ 7
+        → Appends (E.taken errors.old) (E.taken errors.new) (line_for result) }
+{
+    one_answer();
+    match do_lengths(alloc, input, output, errors) {
+        Ok(()) => 0,
+        Err(fault) => lengths_status(fault),
+    }
+}

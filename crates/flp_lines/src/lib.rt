@@ -1,0 +1,14 @@
+//! Lines on the error output that several commands say.
+//!
+//! [`put_circuit_fault`] writes the line of a refused circuit, for every command that reads one.
+//! [`put_numbered`] and [`put_named`] write the pieces of which such lines are made. Nothing here
+//! takes memory. `specs/Circuit.antt` defines the lines.
+#![tactic(auto)]
+
+mod circuit;
+mod pieces;
+#[cfg(test)]
+mod tests;
+
+pub use circuit::put_circuit_fault;
+pub use pieces::{put_named, put_numbered};

@@ -1,0 +1,20 @@
+-- The commands that `clap` is told of, from the options up to the program.
+use Rattle.std.specs.Prelude.{true, Some, codes}
+use Rattle.clap.specs.Words.{App, Rule, Shape, Text, new_app, new_rule, with_rule, with_subcommand}
+use Rattle.clap.specs.declared.builder.action.ArgAction.TheVariants.{Set}
+
+-- the option `--name`, which has one value and must be given
+abbrev pub required_option : Text → Rule
+required_option name = record (new_rule name) { long = Some name; required = true; action = Some Set }
+
+-- `verify --workers N`
+abbrev pub verify_command : App
+verify_command = with_rule (new_app (codes "verify")) (required_option (codes "workers"))
+
+-- `lengths`
+abbrev pub lengths_command : App
+lengths_command = new_app (codes "lengths")
+
+-- the program, with a subcommand for each command
+abbrev pub flp_command : App
+flp_command = with_subcommand (with_subcommand (new_app (codes "flp")) verify_command.top) lengths_command.top
