@@ -1,5 +1,5 @@
 -- Lists of one length after one another, and where the verifier of a share stands among all.
-use Rattle.std.proofs.Common.{ℕ, zero, suc, ◌≡◌, ◌+◌, ◌*◌, ◌<◌, ◌≤◌, List, ◌∷◌, ◌++◌, length, map, take, drop, refl, ap, ap₂, sym, subst, ◌∙◌, arith}
+use Rattle.std.proofs.Common.{ℕ, zero, suc, ◌≡◌, ◌+◌, ◌*◌, ◌<◌, ◌≤◌, List, ◌∷◌, length, map, refl, ap, ap₂, sym, subst, ◌∙◌, arith}
 use Rattle.std.specs.List.{range_with_len, flat_map, sum_by}
 use Rattle.std.proofs.Math.Nat.{suc-mul}
 use Rattle.std.proofs.lemmas.List.{take_all}
@@ -14,7 +14,7 @@ use Rattle.flp_meaning.proofs.PartLemmas.{words-parts, length-parts}
 use Rattle.flp_meaning.proofs.Verifiers.{verifiers_have_length}
 use Rattle.flp_query.specs.Unit.{share_unit}
 use Rattle.flp_report.specs.declared.shape.Shape.{Shape}
-use Rattle.flp_worker.specs.Parts.{share_numbers, proof_numbers, share_encoding, share_proof, joint_words, query_words}
+use Rattle.flp_worker.specs.Parts.{share_encoding, share_proof, joint_words, query_words}
 use Rattle.flp_worker.specs.Verdict.{verifier_of_share, verifiers_for, verifiers_of}
 use Rattle.flp_worker.proofs.PrefixLemmas.{part-fits}
 

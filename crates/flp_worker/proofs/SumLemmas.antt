@@ -1,18 +1,15 @@
 -- The sum of the shares' verifiers decides what the unshared proof decides.
-use Rattle.std.proofs.Common.{ℕ, zero, suc, ◌≡◌, ◌+◌, ◌*◌, ◌<◌, ◌≤◌, List, [], ◌∷◌, length, get_or, map, refl, ap, ap₂, sym, subst, ◌∙◌, arith}
+use Rattle.std.proofs.Common.{ℕ, ◌≡◌, ◌+◌, ◌*◌, ◌<◌, ◌≤◌, List, [], ◌∷◌, length, get_or, map, refl, ap, ap₂, sym, subst, ◌∙◌, arith}
 use Rattle.std.specs.Prelude.{Option, None}
-use Rattle.std.specs.List.{All, range_with_len, flat_map}
-use Rattle.std.proofs.Math.Nat.{mul-le-mul_right}
 use Rattle.std.proofs.lemmas.List.Elements.{All-map}
 use Rattle.std.proofs.lemmas.List.FromFn.{length-map-range_with_len, length-range_with_len, get_or-range_with_len}
-use Rattle.flp_field.specs.Word.{modulus}
 use Rattle.flp_field.specs.Sums.{parts_of, sum_of_lists, sum_of_parts}
 use Rattle.flp_syntax.specs.Tree.{Program}
 use Rattle.flp_meaning.specs.Lengths.{lengths_of}
 use Rattle.flp_meaning.specs.Verifier.{answer_from, is_taken, decides}
 use Rattle.flp_meaning.proofs.PartLemmas.{length-words_at}
 use Rattle.flp_query.specs.Unit.{share_unit}
-use Rattle.flp_query.specs.Laws.{Report, HasLengths, AreShares, sum_of_reports, verifier_with, sum_of_verifiers, VerifiersSumUp}
+use Rattle.flp_query.specs.Laws.{Report, HasLengths, AreShares, sum_of_reports, verifier_with, VerifiersSumUp}
 use Rattle.flp_report.specs.declared.shape.Shape.{Shape}
 use Rattle.flp_report.specs.Shape.{part_of, words_of}
 use Rattle.flp_worker.specs.Parts.{share_numbers, share_encoding, share_proof, joint_words, query_words, unshared_encoding, unshared_proof}

@@ -1,4 +1,4 @@
-use Rattle.std.proofs.Common.{ℕ, ◌≡◌, ◌+◌, ◌*◌, ◌<◌, ◌≤◌, List, length, ap, sym, ◌∙◌, arith}
+use Rattle.std.proofs.Common.{ℕ, ◌≡◌, ◌+◌, ◌*◌, ◌≤◌, List, length, ap, sym, ◌∙◌, arith}
 use Rattle.flp_meaning.specs.Verifier.{gadget_in_domain}
 use Rattle.flp_plan.specs.declared.lengths.Lengths.{Lengths}
 use Rattle.flp_plan.specs.Counted.{lengths_of}

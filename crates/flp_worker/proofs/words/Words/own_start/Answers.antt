@@ -1,6 +1,4 @@
-use Rattle.std.proofs.Common.{◌≡◌, ◌+◌, ◌≤◌, length, arith}
-use Rattle.flp_report.specs.Shape.{words_of}
-use Rattle.flp_report.specs.Record.{own_word}
+use Rattle.std.proofs.Common.{arith}
 use Rattle.flp_worker.proofs.PartLemmas.{own-inside}
 use Rattle.flp_worker.proofs.words.Words.own_start.Goals as goal
 

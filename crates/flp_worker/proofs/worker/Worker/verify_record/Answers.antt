@@ -1,14 +1,13 @@
-use Rattle.std.proofs.Common.{ℕ, ◌≡◌, ◌<◌, List, Vec, length, vec_len, true, false, ap, sym, ◌∙◌, arith}
+use Rattle.std.proofs.Common.{ℕ, ◌≡◌, List, Vec, length, vec_len, true, false, ap, sym, ◌∙◌}
 use Rattle.std.specs.Prelude.{None, Some}
 use Rattle.std.specs.Vec.{with_items}
 use Rattle.std.proofs.lemmas.List.{with_items_is}
 use Rattle.flp_report.specs.declared.shape.Shape.{Shape}
 use Rattle.flp_report.specs.Shape.{words_of}
-use Rattle.flp_report.specs.Record.{record_of, shape_of, words_in}
+use Rattle.flp_report.specs.Record.{record_of, words_in}
 use Rattle.flp_report.specs.Words.{bad_word_in}
-use Rattle.flp_query.specs.declared.sizes.Sizes.{Sizes}
 use Rattle.flp_query.specs.Sizes.{sizes_of}
-use Rattle.flp_worker.specs.Verdict.{all_hold, verifiers_of}
+use Rattle.flp_worker.specs.Verdict.{all_hold}
 use Rattle.flp_worker.specs.Worker.{Working}
 use Rattle.flp_worker.proofs.PartLemmas.{length-words_in}
 use Rattle.flp_worker.proofs.VerdictLemmas.{verdict-malformed, verdict-inside, verdict-held, outs-are, kept-is}
