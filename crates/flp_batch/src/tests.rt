@@ -17,14 +17,21 @@ const ONE: &[u8] = b"aaaaaaaaaaaaaaaa\n";
 
 const BOTH: &[u8] = b"aaaaaaaaaaaaaaaa\nbbbbbbbbbbbbbbbb\n";
 
-// The whole batch, of 298 bytes, whose words are all 0.
-fn batch(alloc: Global) -> Result<Vec<u8>, AllocError> {
+// The whole batch, of 298 bytes, whose words are all 0, with some bytes changed, and then cut or filled up with
+// zeros to this size.
+fn batch(alloc: Global, changes: &[(usize, u8)], size: usize) -> Result<Vec<u8>, AllocError> {
     let mut bytes = FRONT.to_vec(alloc)?;
     bytes.resize(58, b'A')?;
     bytes.resize(74, b'a')?;
     bytes.resize(178, 0)?;
     bytes.resize(194, b'b')?;
     bytes.resize(298, 0)?;
+    for (at, byte) in changes {
+        if let Some(place) = bytes.get_mut(*at) {
+            *place = *byte;
+        }
+    }
+    bytes.resize(size, 0)?;
     Ok(bytes)
 }
 
@@ -129,13 +136,7 @@ const CASES: [Case; 16] = [
 #[test]
 fn lines_and_faults(rt: HostRuntime) -> Result<(), Fail> {
     for (changes, size, party, read, write, wanted, written) in CASES {
-        let mut bytes = batch(rt.alloc())?;
-        for (at, byte) in changes {
-            if let Some(place) = bytes.get_mut(*at) {
-                *place = *byte;
-            }
-        }
-        bytes.resize(size, 0)?;
+        let bytes = batch(rt.alloc(), changes, size)?;
         let mut input = MemorySource::new(bytes, 4096, [read].to_vec(rt.alloc())?);
         let mut output = MemorySink::new(rt.alloc(), 4096, [write].to_vec(rt.alloc())?);
         output.reserve(64)?;
