@@ -1,5 +1,5 @@
 -- A nonce more that is known, and what a `Judging` keeps then.
-use Rattle.std.proofs.Common.{◌≡◌, ℕ, ◌+◌, ◌<◌, List, [], ◌∷◌, ◌++◌, length, take, Some, Bool, true, false, not, ◌||◌, nat_eq, cond, refl, sym, ap, subst, ◌∙◌, arith, ⊎_elim}
+use Rattle.std.proofs.Common.{◌≡◌, ℕ, ◌+◌, ◌<◌, List, [], ◌∷◌, ◌++◌, length, take, Some, Bool, true, false, not, ◌||◌, nat_eq, cond, refl, sym, ap, ◌∙◌, arith, ⊎_elim}
 use Rattle.std.specs.Prelude.{if◌then◌else◌, slice_get}
 use Rattle.std.specs.Ordering.{nat_cmp, is_eq, eq_by_cmp}
 use Rattle.std.specs.Cmp.Lexicographic.{pointwise, slice_cmp, lists_ties, bytes_decides}
@@ -11,12 +11,11 @@ use Rattle.std.proofs.lemmas.Bool.Decides.{nat_tests}
 use Rattle.flp_syntax.specs.Tree.{Program}
 use Rattle.flp_report.specs.declared.shape.Shape.{Shape}
 use Rattle.flp_report.specs.Record.{nonce_in}
-use Rattle.flp_policy.specs.declared.verdict.Verdict.{Verdict}
 use Rattle.flp_policy.specs.declared.verdict.Verdict.TheVariants.{Replayed}
 use Rattle.flp_worker.specs.Verdict.{verdict_of}
 use Rattle.flp_verdict.specs.declared.judging.Judging.{Judging}
 use Rattle.flp_verdict.specs.Verdicts.{known_behind, is_among, verdict_after}
-use Rattle.flp_verdict.specs.Judging.{old_claims_of, JudgesAlike, Follows}
+use Rattle.flp_verdict.specs.Judging.{old_claims_of, Follows}
 use Rattle.flp_verdict.proofs.KnownLemmas.{is_among_more, known_behind_more}
 
 -- numbers are equal where they compare as equal

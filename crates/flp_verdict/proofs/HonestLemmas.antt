@@ -1,20 +1,20 @@
 -- Honest records: where no query point lies in a domain each proof holds, and so the record is accepted.
-use Rattle.std.proofs.Common.{◌≡◌, ◌≢◌, ℕ, zero, suc, ◌+◌, ◌<◌, ◌≤◌, List, [], ◌∷◌, length, map, take, Bool, true, false, Option, Some, None, refl, sym, ap, subst, ◌∙◌, arith, inl, inr, ⊎_elim}
+use Rattle.std.proofs.Common.{◌≡◌, ℕ, zero, suc, ◌+◌, ◌<◌, ◌≤◌, List, ◌∷◌, map, take, Bool, true, false, Option, Some, None, refl, sym, ap, subst, ◌∙◌, arith, inl, inr, ⊎_elim}
 use Rattle.std.specs.Prelude.{if◌then◌else◌, ◌⊎◌}
 use Rattle.std.specs.List.{list_all, range_with_len}
 use Rattle.std.proofs.lemmas.Bool.{cases_Bool}
 use Rattle.flp_syntax.specs.Tree.{Program}
-use Rattle.flp_meaning.specs.Verifier.{gadget_in_domain, accepts}
+use Rattle.flp_meaning.specs.Verifier.{accepts}
 use Rattle.flp_meaning.specs.ProofLaws.{IsBounded, HonestProofIsAccepted}
 use Rattle.flp_report.specs.declared.shape.Shape.{Shape}
 use Rattle.flp_report.specs.Record.{nonce_in, words_in}
 use Rattle.flp_report.specs.Words.{bad_word_in}
 use Rattle.flp_policy.specs.declared.verdict.Verdict.{Verdict}
-use Rattle.flp_policy.specs.declared.verdict.Verdict.TheVariants.{Accepted, Rejected, InDomain, Malformed, Replayed}
-use Rattle.flp_worker.specs.Parts.{proof_numbers, joint_words, query_words, unshared_encoding, unshared_proof}
+use Rattle.flp_policy.specs.declared.verdict.Verdict.TheVariants.{Replayed}
+use Rattle.flp_worker.specs.Parts.{joint_words, query_words, unshared_encoding}
 use Rattle.flp_worker.specs.Verdict.{verdict_of, verdict_by, verdict_if, first_named, first_inside, gadget_inside, proof_holds, all_hold}
 use Rattle.flp_verdict.specs.Verdicts.{known_behind, is_among}
-use Rattle.flp_verdict.specs.Laws.{report_at, verdict_at, IsHonestProof, IsHonest, IsHonestVerdict, AcceptsHonest}
+use Rattle.flp_verdict.specs.Laws.{report_at, IsHonestProof, IsHonest, IsHonestVerdict, AcceptsHonest}
 use Rattle.flp_verdict.proofs.PlaceLemmas.{at-place}
 
 -- an honest proof holds where no query point lies in a domain

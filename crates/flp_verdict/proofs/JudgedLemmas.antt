@@ -1,5 +1,5 @@
 -- What one record more adds to the verdicts, the accepted records, the count and the lines.
-use Rattle.std.proofs.Common.{◌≡◌, ℕ, ◌+◌, List, [], ◌∷◌, ◌++◌, length, map, Bool, true, false, refl, sym, ap, ◌∙◌, append_assoc, append-nil, length-append}
+use Rattle.std.proofs.Common.{◌≡◌, ℕ, List, [], ◌∷◌, ◌++◌, map, Bool, true, false, refl, sym, ap, ◌∙◌, append_assoc, append-nil}
 use Rattle.std.specs.Prelude.{if◌then◌else◌, filter}
 use Rattle.std.proofs.lemmas.List.Concat.{flat_map-append}
 use Rattle.std.proofs.lemmas.List.Elements.{filter-append}
@@ -8,7 +8,6 @@ use Rattle.flp_syntax.specs.Tree.{Program}
 use Rattle.flp_report.specs.declared.shape.Shape.{Shape}
 use Rattle.flp_policy.specs.Verdicts.{is_accepted}
 use Rattle.flp_verdict.specs.Verdicts.{Judged, judged_after, judged_from, judged, accepted_in}
-use Rattle.flp_verdict.specs.Totals.{count_of}
 use Rattle.flp_verdict.specs.Text.{line_of, lines_of}
 
 -- one record more is judged behind all others

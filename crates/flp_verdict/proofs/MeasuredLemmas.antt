@@ -1,6 +1,6 @@
 -- Sums of measurements: an aggregate whose whole-number sums are words is these sums.
-use Rattle.std.proofs.Common.{◌≡◌, ℕ, zero, suc, ◌+◌, ◌<◌, ◌≤◌, ◌%◌, List, [], ◌∷◌, length, map, get_or, None, refl, sym, ap, subst, ◌∙◌, arith}
-use Rattle.std.specs.List.{All, range_with_len, sum_by}
+use Rattle.std.proofs.Common.{◌≡◌, ℕ, ◌<◌, List, [], ◌∷◌, length, map, get_or, None, refl, sym, ap, ◌∙◌, arith}
+use Rattle.std.specs.List.{All}
 use Rattle.std.proofs.lemmas.List.Elements.{All-head, All-tail, All-get_or}
 use Rattle.std.proofs.lemmas.List.FromFn.{length-map-range_with_len, get_or-map-range_with_len}
 use Rattle.flp_field.specs.Word.{modulus, IsWord, AreWords}
@@ -19,8 +19,7 @@ use Rattle.flp_report.specs.Record.{words_in}
 use Rattle.flp_worker.specs.Parts.{unshared_encoding}
 use Rattle.flp_worker.specs.Verdict.{outs_in}
 use Rattle.flp_verdict.specs.Verdicts.{judged, accepted_in}
-use Rattle.flp_verdict.specs.Totals.{aggregate_of}
-use Rattle.flp_verdict.specs.Laws.{whole_sum, Encode, measured, SumsMeasurements}
+use Rattle.flp_verdict.specs.Laws.{whole_sum, SumsMeasurements}
 
 -- sums that are words are the sums modulo p
 whole_sum-words : (n : ℕ) (vectors : List (List ℕ)) → AreWords (whole_sum n vectors) → sum_of_lists n vectors ≡ whole_sum n vectors

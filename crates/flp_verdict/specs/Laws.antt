@@ -1,7 +1,7 @@
 -- The laws of the verdicts and the aggregate of a batch. From places up.
-use Rattle.std.specs.Prelude.{◌≡◌, ◌≢◌, ◌↔◌, ◌⊎◌, ℕ, ◌+◌, ◌<◌, List, [], Option, None, Some, length, map, slice_index, slice_index_or, Contains}
+use Rattle.std.specs.Prelude.{◌≡◌, ◌≢◌, ◌↔◌, ◌⊎◌, ℕ, ◌<◌, List, [], None, Some, length, map, slice_index, slice_index_or, Contains}
 use Rattle.std.specs.List.{All, range_with_len, sum_by}
-use Rattle.flp_field.specs.Word.{modulus, AreWords}
+use Rattle.flp_field.specs.Word.{AreWords}
 use Rattle.flp_syntax.specs.Tree.{Program}
 use Rattle.flp_syntax.specs.declared.syntax.Params.{Params}
 use Rattle.flp_meaning.specs.Circuit.{IsValid}
