@@ -16,7 +16,10 @@ fn sink(alloc: Global) -> Result<MemorySink, AllocError> {
 #[test]
 fn lines_of_refused_circuits(rt: HostRuntime) -> Result<(), AllocError> {
     let rows: [(CircuitFault, &[u8]); 16] = [
-        (CircuitFault::Lang(LangFault::TextLength(65537)), b"text length 65537"),
+        (
+            CircuitFault::Lang(LangFault::TextLength(65537)),
+            b"text length 65537",
+        ),
         (CircuitFault::Lang(LangFault::Lex(3)), b"lex 3"),
         (CircuitFault::Lang(LangFault::Syntax(1)), b"syntax 1"),
         (CircuitFault::Lang(LangFault::Name(4)), b"name 4"),
@@ -25,9 +28,15 @@ fn lines_of_refused_circuits(rt: HostRuntime) -> Result<(), AllocError> {
         (CircuitFault::Lang(LangFault::Index(14)), b"index 14"),
         (CircuitFault::Lang(LangFault::Arity(7)), b"arity 7"),
         (CircuitFault::Lang(LangFault::Uncalled(0)), b"uncalled 0"),
-        (CircuitFault::Lang(LangFault::Limit(Counted::Gadgets, 9)), b"limit gadgets 9"),
+        (
+            CircuitFault::Lang(LangFault::Limit(Counted::Gadgets, 9)),
+            b"limit gadgets 9",
+        ),
         (CircuitFault::Lang(LangFault::Depth(64)), b"depth 64"),
-        (CircuitFault::Param(ParamFault::Zero(Param::Max)), b"zero max"),
+        (
+            CircuitFault::Param(ParamFault::Zero(Param::Max)),
+            b"zero max",
+        ),
         (
             CircuitFault::Param(ParamFault::TooLarge(Param::Max, 1 << 63)),
             b"too large max 9223372036854775808",
