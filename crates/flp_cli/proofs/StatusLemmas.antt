@@ -5,26 +5,10 @@ use Rattle.std.specs.Io.KnownBytes.{Appends, Keeps}
 use Rattle.flp_report.specs.declared.count_fault.CountFault.TheVariants as read
 use Rattle.flp_report.specs.declared.count_fault.CountBatchFault.{CountBatchFault}
 use Rattle.flp_report.specs.CountBatch.{fault_of}
-use Rattle.flp_lengths.specs.declared.command.LengthsFault.{LengthsFault}
-use Rattle.flp_lengths.specs.declared.command.LengthsFault.TheVariants as lengths
 use Rattle.flp_cli.specs.declared.fault.Fault.{Fault}
 use Rattle.flp_cli.specs.declared.fault.Fault.TheVariants.{Memory, Read, Write, NotBuilt, Batch}
-use Rattle.flp_cli.specs.Answers.{is_among, is_status, status_of, status_for, lengths_status}
+use Rattle.flp_cli.specs.Answers.{is_among, status_of, status_for}
 use Rattle.flp_cli.specs.Reply.{WritesText}
-
-pub status-read : (f : Fault) → status_of f ≡ 4 → f ≡ Read
-status-read Memory is = absurd (omega arith)
-status-read Read is = refl
-status-read Write is = absurd (omega arith)
-status-read NotBuilt is = absurd (omega arith)
-status-read (Batch why) is = absurd (omega arith)
-
-pub status-write : (f : Fault) → status_of f ≡ 5 → f ≡ Write
-status-write Memory is = absurd (omega arith)
-status-write Read is = absurd (omega arith)
-status-write Write is = refl
-status-write NotBuilt is = absurd (omega arith)
-status-write (Batch why) is = absurd (omega arith)
 
 pub status-batch : (f : Fault) → status_of f ≡ 6 → (why : CountBatchFault) × (f ≡ Batch why)
 status-batch Memory is = absurd (omega arith)
@@ -39,13 +23,6 @@ status-not_built Read is = absurd (omega arith)
 status-not_built Write is = absurd (omega arith)
 status-not_built NotBuilt is = refl
 status-not_built (Batch why) is = absurd (omega arith)
-
-pub status-memory : (f : Fault) → status_of f ≡ 3 → f ≡ Memory
-status-memory Memory is = refl
-status-memory Read is = absurd (omega arith)
-status-memory Write is = absurd (omega arith)
-status-memory NotBuilt is = absurd (omega arith)
-status-memory (Batch why) is = absurd (omega arith)
 
 -- no fault has status 0 or 2
 pub status-some : (f : Fault) → (status_of f ≡ 0) ⊎ (status_of f ≡ 2) → ⊥
@@ -89,27 +66,6 @@ known-fault Read = search rules
 known-fault Write = search rules
 known-fault NotBuilt = search rules
 known-fault (Batch why) = search rules
-
--- each of those is a status
-pub status-known : (f : Fault) → IsTrue (is_status (status_of f))
-status-known Memory = search rules
-status-known Read = search rules
-status-known Write = search rules
-status-known NotBuilt = search rules
-status-known (Batch why) = search rules
-
--- each fault of `lengths` has a status, and not that of words without a job
-pub lengths_status-known : (f : LengthsFault) → IsTrue (is_status (lengths_status f))
-lengths_status-known lengths.Memory = search rules
-lengths_status-known lengths.Read = search rules
-lengths_status-known lengths.Write = search rules
-lengths_status-known (lengths.Circuit why) = search rules
-
-pub lengths_status-some : (f : LengthsFault) → lengths_status f ≡ 2 → ⊥
-lengths_status-some lengths.Memory is = omega arith
-lengths_status-some lengths.Read is = omega arith
-lengths_status-some lengths.Write is = omega arith
-lengths_status-some (lengths.Circuit why) is = omega arith
 
 -- bytes that stay grow by none
 pub Appends-nothing : (a b : Option (List ℕ)) → Keeps a b → Appends a b []
