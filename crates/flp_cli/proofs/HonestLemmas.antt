@@ -1,9 +1,8 @@
 -- A valid encoding with an honest proof: its check is 0, and its gadget polynomial is the product of the wires.
-use Rattle.std.proofs.Common.{◌≡◌, ℕ, ◌+◌, ◌-◌, ◌*◌, ◌%◌, ◌<◌, ◌≤◌, Bool, true, false, ◌&&◌, ◌==◌, refl, sym, ap, subst, ◌∙◌, arith}
-use Rattle.std.specs.Prelude.{if◌then◌else◌}
+use Rattle.std.proofs.Common.{◌≡◌, ℕ, ◌+◌, ◌-◌, ◌*◌, ◌%◌, ◌<◌, true, refl, sym, ◌∙◌, arith}
 use Rattle.std.proofs.lemmas.Bool.{eq-eqb}
 use Rattle.flp_field.specs.Word.{modulus, word_sum, word_difference, word_product}
-use Rattle.flp_field.proofs.Congruence.{Same, same_refl, same_trans, same_eq, same_mod, same_add, same_mul, eq_from_same, word_mod, mod_word}
+use Rattle.flp_field.proofs.Congruence.{Same, same_eq, same_mod, same_add, same_mul, eq_from_same, word_mod, mod_word}
 use Rattle.flp_cli.specs.declared.claim.Claim.{Claim}
 use Rattle.flp_cli.specs.Count.{half_of, wire_at, gadget_at, check_of, accepts, IsValid, IsHonest, wire_constant, wire_slope}
 

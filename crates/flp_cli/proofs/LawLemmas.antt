@@ -1,17 +1,15 @@
 -- The verdicts place by place: a replay exactly behind an earlier report with its nonce, and honest reports accepted.
-use Rattle.std.proofs.Common.{◌≡◌, ◌≢◌, ℕ, zero, suc, ◌+◌, ◌<◌, ◌≤◌, List, [], ◌∷◌, ◌++◌, length, get_or, take, Bool, true, false, ◌||◌, nat_eq, Option, Some, None, refl, sym, ap, subst, ◌∙◌, arith, inl, inr, ⊎_elim, append_assoc, append-nil}
-use Rattle.std.specs.Prelude.{if◌then◌else◌, map, slice_index_or, ◌↔◌}
+use Rattle.std.proofs.Common.{◌≡◌, ◌≢◌, ℕ, zero, suc, ◌<◌, ◌≤◌, List, [], ◌∷◌, ◌++◌, length, get_or, take, Bool, true, false, ◌||◌, nat_eq, Option, Some, None, refl, sym, ap, ◌∙◌, arith, ⊎_elim, append_assoc, append-nil}
+use Rattle.std.specs.Prelude.{if◌then◌else◌, map}
 use Rattle.std.specs.Cmp.Lexicographic.{pointwise, bytes_decides}
 use Rattle.std.proofs.Math.Bool.{or-true}
 use Rattle.std.proofs.lemmas.Bool.{cases_Bool}
-use Rattle.flp_field.specs.Word.{modulus}
 use Rattle.flp_field.proofs.Congruence.{mod_word}
 use Rattle.flp_report.specs.Record.{nonce_in}
 use Rattle.flp_cli.specs.declared.claim.Claim.{Claim}
-use Rattle.flp_cli.specs.declared.verdict.Verdict.{Verdict}
-use Rattle.flp_cli.specs.declared.verdict.Verdict.TheVariants.{Accepted, Rejected, InDomain, Malformed, Replayed}
-use Rattle.flp_cli.specs.Count.{verdict_on, accepts, is_in_domain, IsValid, IsHonest}
-use Rattle.flp_cli.specs.Verdicts.{Judged, judged, judged_from, judged_after, verdicts_of, verdict_by, verdict_of, verdict_after, has_nonce, claim_of, bad_word_of}
+use Rattle.flp_cli.specs.declared.verdict.Verdict.TheVariants.{Accepted, Rejected, InDomain, Replayed}
+use Rattle.flp_cli.specs.Count.{accepts, is_in_domain, IsValid, IsHonest}
+use Rattle.flp_cli.specs.Verdicts.{judged_from, verdict_by, verdict_of, verdict_after, has_nonce, claim_of, bad_word_of}
 use Rattle.flp_cli.specs.Laws.{report_at, verdict_at, JudgesOnce, AcceptsHonest}
 use Rattle.flp_cli.proofs.HonestLemmas.{accepts-honest}
 

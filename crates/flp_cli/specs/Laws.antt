@@ -1,5 +1,5 @@
 -- Laws of the verdicts on a batch that users rely on. They speak of the definitions that the text cites.
-use Rattle.std.specs.Prelude.{◌≡◌, ◌≢◌, ◌↔◌, ℕ, ◌<◌, List, [], Option, None, if◌then◌else◌, length, slice_index_or}
+use Rattle.std.specs.Prelude.{◌≡◌, ◌≢◌, ◌↔◌, ℕ, ◌<◌, List, [], None, if◌then◌else◌, length, slice_index_or}
 use Rattle.flp_report.specs.Record.{nonce_in}
 use Rattle.flp_cli.specs.declared.verdict.Verdict.{Verdict}
 use Rattle.flp_cli.specs.declared.verdict.Verdict.TheVariants.{Accepted, InDomain, Replayed}
