@@ -1,10 +1,2 @@
-pub mod EngineLemmas
-pub mod HonestLemmas
-pub mod JudgedLemmas
-pub mod LawLemmas
-pub mod OutcomeLemmas
-pub mod PartLemmas
-pub mod ProgressLemmas
-pub mod ReplyLemmas
 pub mod RunLemmas
 pub mod StatusLemmas

@@ -1,82 +1,171 @@
 -- From what a command did, and its fault, to what its run does.
-use Rattle.std.proofs.Common.{◌≡◌, ℕ, ◌≤◌, Bool, Option, Some, Result, Err, List, [], refl, sym, ap, subst, inl, inr, ◌⊎◌, ⊎_elim, arith, rules, take}
-use Rattle.std.specs.Prelude.{IfSome}
+use Rattle.std.proofs.Common.{◌≡◌, ℕ, ◌≤◌, Bool, Option, None, Some, Result, Err, List, [], refl, sym, ap, subst, inl, inr, ◌⊎◌, ⊎_elim, arith, rules, take}
+use Rattle.std.specs.Prelude.{IfSome, IsTrue}
 use Rattle.std.specs.Io.KnownBytes.{Appends, Keeps}
 use Rattle.std.proofs.KnownBytes.{Consumes-nil, Keeps-refl}
-use Rattle.flp_io.proofs.WriteLemmas.{TakesPrefix-refl}
-use Rattle.flp_report.specs.CountBatch.{fault_of}
-use Rattle.flp_report.specs.declared.count_fault.CountBatchFault.{CountBatchFault}
-use Rattle.flp_report.specs.declared.count_fault.CountFault.TheVariants as read
+use Rattle.flp_syntax.specs.declared.syntax.Params.{Params}
+use Rattle.flp_syntax.specs.Tree.{Program}
 use Rattle.flp_load.specs.declared.fault.CircuitFault.{CircuitFault}
 use Rattle.flp_load.specs.Fault.{IsCircuitFault}
 use Rattle.flp_load.specs.Loaded.{IsLoaded}
 use Rattle.flp_load.specs.Laws.{NeverBoth}
+use Rattle.flp_policy.specs.Policy.{Counts}
+use Rattle.flp_report.specs.declared.fault.BatchFault.{BatchFault}
+use Rattle.flp_batch.specs.declared.fault.EngineFault.{EngineFault}
+use Rattle.flp_batch.specs.declared.fault.EngineFault.TheVariants as batch
+use Rattle.flp_batch.specs.Fault.{IfFile}
+use Rattle.flp_batch.specs.Setting.{Setting}
+use Rattle.flp_report.specs.Reads.{ConsumesWithin}
+use Rattle.flp_batch.specs.File.{IsBatch, IsFault, front_size}
+use Rattle.flp_batch.specs.Batch.{TakesFew as TakesFewOfBatch}
+use Rattle.flp_batch.specs.Reply.{WritesText, StopsInText, StopsEarly}
+use Rattle.flp_verify.specs.Text.{lines_by, text_by}
 use Rattle.flp_lengths.specs.declared.command.LengthsFault.{LengthsFault}
 use Rattle.flp_lengths.specs.declared.command.LengthsFault.TheVariants as lengths
 use Rattle.flp_lengths.specs.Reading.{TakesFew, ReadsText}
 use Rattle.flp_lengths.specs.Reply.{WritesLengths, StopsInLengths, RefusesText}
-use Rattle.flp_cli.specs.declared.fault.Fault.{Fault}
-use Rattle.flp_cli.specs.declared.fault.Fault.TheVariants.{Read, Write, NotBuilt, Batch}
-use Rattle.flp_cli.specs.Answers.{status_of, line_of_fault, lengths_status, lengths_line}
-use Rattle.flp_cli.specs.Policy.{Counts}
-use Rattle.flp_cli.specs.Reply.{WritesText, StopsInText, StopsEarly}
+use Rattle.flp_cli.specs.Answers.{batch_status, engine_line, file_status, lengths_status, lengths_line}
+use Rattle.flp_cli.specs.Reply.{Verifies, StopsLate}
 use Rattle.flp_cli.specs.Stream.{Stream, stream, Failed, IsQuiet}
-use Rattle.flp_cli.specs.Runs.{RunsVerify, RunsLengths}
-use Rattle.flp_cli.proofs.ReplyLemmas.{Verifies-from, StopsLate-from}
-use Rattle.flp_cli.proofs.StatusLemmas.{status-batch, status-not_built, status-some, whole-read, told, decided, known-fault}
+use Rattle.flp_cli.specs.Runs.{Refuses, RunsVerify, RunsLengths}
+use Rattle.flp_cli.proofs.StatusLemmas.{file-status, whole-read, told}
 
 -- ---- `verify`
 
+-- a file is never a batch and refused
+abbrev pub BatchNeverBoth : Type 0
+BatchNeverBoth =
+    (party : Option ℕ) (bytes : List ℕ) (params : Option Params) (setting : Setting) (fault : EngineFault)
+    → IsBatch party bytes params setting → IsFault party bytes fault → ⊥
+
+-- and has one fault
+abbrev pub BatchOneFault : Type 0
+BatchOneFault =
+    (party : Option ℕ) (bytes : List ℕ) (fault other : EngineFault)
+    → IsFault party bytes fault → IsFault party bytes other → fault ≡ other
+
+-- what holds without asking the policies holds where they allow it
+verifies : (left left' taken taken' : Option (List ℕ)) (would : Counts → List Bool) → WritesText None text_by left left' taken taken' → Verifies left left' taken taken' would
+verifies left left' taken taken' would done =
+    record { bytes = done.bytes; params = done.params; setting = done.setting; read = done.read; ended = done.ended; is_batch = done.is_batch; written = λ _. done.written }
+
+stops_late : (left left' taken taken' : Option (List ℕ)) (would : Counts → List Bool) → StopsInText None text_by left left' taken taken' → StopsLate left left' taken taken' would
+stops_late left left' taken taken' would done =
+    record { bytes = done.bytes; params = done.params; setting = done.setting; read = done.read; ended = done.ended; is_batch = done.is_batch; written = λ _. done.written }
+
 -- the fault in an error
-pub at-write : {A B T : Type 0} (fault : Fault) → A ⊎ ((◌≡◌ {A = Result T Fault} (Err fault) (Err Write)) × B) → A ⊎ ((fault ≡ Write) × B)
+abbrev pub at-write : {A B T : Type 0} (fault : EngineFault) → A ⊎ ((◌≡◌ {A = Result T EngineFault} (Err fault) (Err batch.Write)) × B) → A ⊎ ((fault ≡ batch.Write) × B)
 at-write fault (inl early) = inl early
-at-write fault (inr late) = let same : fault ≡ Write = cc late.0 in inr (same, late.1)
+at-write fault (inr late) = let same : fault ≡ batch.Write = cc late.0 in inr (same, late.1)
 
-pub verify-done : (would : Counts → List Bool) (input output errors : Stream) → WritesText input.old input.new output.old output.new
-    → RunsVerify would input output errors 0
-verify-done would input output errors done = record {
+pub verify-done : BatchNeverBoth → (would : Counts → List Bool) (input output errors : Stream) → WritesText None text_by input.old input.new output.old output.new
+    → TakesFewOfBatch None input.old input.new → RunsVerify would input output errors 0
+verify-done never would input output errors done few = record {
   known = search rules;
-  done = λ _. Verifies-from input.old input.new output.old output.new would done;
+  done = λ _. verifies input.old input.new output.old output.new would done;
   stopped = λ other. absurd (other refl);
-  refused = λ is. absurd (omega arith);
-  not_built = λ is. absurd (omega arith);
-  not_written = λ is. absurd (omega arith);
-  complete = λ bytes is quiet_in quiet_out. inr (sym (whole-read input.old input.new output.old output.new bytes is done));
+  refused = λ is. absurd (⊎_elim (λ (six : 0 ≡ 6). omega arith) (λ (seven : 0 ≡ 7). omega arith) is);
+  few = few;
+  complete = λ bytes is quiet_in quiet_out params setting is_batch. inr refl;
+  refuses = λ bytes is quiet_in quiet_out fault refused.
+      let all : bytes ≡ done.bytes = whole-read input.old input.new bytes done.bytes is done.read done.ended in
+      absurd (never None done.bytes done.params done.setting fault done.is_batch (subst (λ (b : List ℕ). IsFault None b fault) all refused));
 }
 
-pub verify-stopped : (would : Counts → List Bool) (input output errors : Stream) (fault : Fault)
-    → StopsEarly input.old input.new output.old output.new ⊎ ((fault ≡ Write) × StopsInText input.old input.new output.old output.new)
-    → ((why : CountBatchFault) → fault ≡ Batch why → IfSome input.old (λ bytes. fault_of bytes ≡ Some (read.Batch why)))
-    → (fault ≡ NotBuilt → IfSome input.old (λ bytes. fault_of bytes ≡ Some read.NotBuilt))
-    → (fault ≡ NotBuilt → Keeps output.old output.new) → (fault ≡ Read → Failed input) → (fault ≡ Write → Failed output)
-    → (IsQuiet errors → Appends errors.old errors.new (line_of_fault fault)) → RunsVerify would input output errors (status_of fault)
-verify-stopped would input output errors fault stopped refused not_built not_written failed_in failed_out line = record {
-  known = known-fault fault;
-  done = λ is. absurd (status-some fault (inl is));
-  stopped = λ _. ⊎_elim (λ early. inl early)
-      (λ (late : (fault ≡ Write) × StopsInText input.old input.new output.old output.new). inr (ap status_of late.0, StopsLate-from input.old input.new output.old output.new would late.1))
-      stopped;
-  refused = λ is.
-      let why = status-batch fault is in
-      (why.0, refused why.0 why.1, λ quiet. subst (λ (f : Fault). Appends errors.old errors.new (line_of_fault f)) why.1 (line quiet));
-  not_built = λ is. not_built (status-not_built fault is);
-  not_written = λ is. not_written (status-not_built fault is);
-  complete = λ bytes is quiet_in quiet_out.
-      decided fault input.old bytes is (λ failed. quiet_in (failed_in failed)) (λ failed. quiet_out (failed_out failed)) refused not_built;
+-- an end for want of memory
+verify-memory : (would : Counts → List Bool) (input output errors : Stream) → StopsEarly None lines_by input.old input.new output.old output.new
+    → TakesFewOfBatch None input.old input.new → RunsVerify would input output errors 3
+verify-memory would input output errors early few = record {
+  known = search rules;
+  done = λ is. absurd (omega arith);
+  stopped = λ _. inl early;
+  refused = λ is. absurd (⊎_elim (λ (six : 3 ≡ 6). omega arith) (λ (seven : 3 ≡ 7). omega arith) is);
+  few = few;
+  complete = λ bytes is quiet_in quiet_out params setting is_batch. inl refl;
+  refuses = λ bytes is quiet_in quiet_out fault refused. inl refl;
 }
+
+-- an end for a failed read
+verify-read : (would : Counts → List Bool) (input output errors : Stream) → StopsEarly None lines_by input.old input.new output.old output.new
+    → TakesFewOfBatch None input.old input.new → Failed input → RunsVerify would input output errors 4
+verify-read would input output errors early few failed = record {
+  known = search rules;
+  done = λ is. absurd (omega arith);
+  stopped = λ _. inl early;
+  refused = λ is. absurd (⊎_elim (λ (six : 4 ≡ 6). omega arith) (λ (seven : 4 ≡ 7). omega arith) is);
+  few = few;
+  complete = λ bytes is quiet_in quiet_out params setting is_batch. absurd (quiet_in failed);
+  refuses = λ bytes is quiet_in quiet_out fault refused. absurd (quiet_in failed);
+}
+
+-- an end for a failed write
+verify-write : (would : Counts → List Bool) (input output errors : Stream)
+    → StopsEarly None lines_by input.old input.new output.old output.new ⊎ StopsInText None text_by input.old input.new output.old output.new
+    → TakesFewOfBatch None input.old input.new → Failed output → RunsVerify would input output errors 5
+verify-write would input output errors stopped few failed = record {
+  known = search rules;
+  done = λ is. absurd (omega arith);
+  stopped = λ _. ⊎_elim (λ early. inl early) (λ late. inr (refl, stops_late input.old input.new output.old output.new would late)) stopped;
+  refused = λ is. absurd (⊎_elim (λ (six : 5 ≡ 6). omega arith) (λ (seven : 5 ≡ 7). omega arith) is);
+  few = few;
+  complete = λ bytes is quiet_in quiet_out params setting is_batch. absurd (quiet_out failed);
+  refuses = λ bytes is quiet_in quiet_out fault refused. absurd (quiet_out failed);
+}
+
+-- an end for the first fault of the file, whose status is 6 or 7
+verify-refused : BatchNeverBoth → BatchOneFault → (would : Counts → List Bool) (input output errors : Stream) (fault : EngineFault)
+    → (batch_status fault ≡ 6) ⊎ (batch_status fault ≡ 7)
+    → StopsEarly None lines_by input.old input.new output.old output.new
+    → IfSome input.old (λ bytes. IsFault None bytes fault) → TakesFewOfBatch None input.old input.new
+    → (IsQuiet errors → Appends errors.old errors.new (engine_line fault)) → RunsVerify would input output errors (batch_status fault)
+verify-refused never one would input output errors fault six_seven early is_fault few line = record {
+  known = ⊎_elim (λ (six : batch_status fault ≡ 6). rw six (search rules)) (λ (seven : batch_status fault ≡ 7). rw seven (search rules)) six_seven;
+  done = λ is. absurd (⊎_elim (λ (six : batch_status fault ≡ 6). omega arith) (λ (seven : batch_status fault ≡ 7). omega arith) six_seven);
+  stopped = λ _. inl early;
+  refused = λ _. record { fault = fault; is = is_fault; status_is = refl; says = line };
+  few = few;
+  complete = λ bytes is quiet_in quiet_out params setting is_batch.
+      absurd (never None bytes params setting fault is_batch (told input.old bytes (λ b. IsFault None b fault) is is_fault));
+  refuses = λ bytes is quiet_in quiet_out other refused.
+      inr (ap batch_status (one None bytes fault other (told input.old bytes (λ b. IsFault None b fault) is is_fault) refused));
+}
+
+-- what is said of an end that is not for a failed write
+early-of : {A B : Type 0} (fault : EngineFault) → (fault ≡ batch.Write → ⊥) → A ⊎ ((fault ≡ batch.Write) × B) → A
+early-of fault other (inl early) = early
+early-of fault other (inr late) = absurd (other late.0)
+
+either-of : {A B : Type 0} (fault : EngineFault) → A ⊎ ((fault ≡ batch.Write) × B) → A ⊎ B
+either-of fault (inl early) = inl early
+either-of fault (inr late) = inr late.1
+
+pub verify-stopped : BatchNeverBoth → BatchOneFault → (would : Counts → List Bool) (input output errors : Stream) (fault : EngineFault)
+    → StopsEarly None lines_by input.old input.new output.old output.new ⊎ ((fault ≡ batch.Write) × StopsInText None text_by input.old input.new output.old output.new)
+    → IfFile fault (λ f. IfSome input.old (λ bytes. IsFault None bytes f)) → TakesFewOfBatch None input.old input.new
+    → (fault ≡ batch.Read → Failed input) → (fault ≡ batch.Write → Failed output)
+    → (IsQuiet errors → Appends errors.old errors.new (engine_line fault)) → RunsVerify would input output errors (batch_status fault)
+verify-stopped never one would input output errors batch.Memory stopped is_fault few failed_in failed_out line =
+    verify-memory would input output errors (early-of batch.Memory (λ is. cc) stopped) few
+verify-stopped never one would input output errors batch.Read stopped is_fault few failed_in failed_out line =
+    verify-read would input output errors (early-of batch.Read (λ is. cc) stopped) few (failed_in refl)
+verify-stopped never one would input output errors batch.Write stopped is_fault few failed_in failed_out line =
+    verify-write would input output errors (either-of batch.Write stopped) few (failed_out refl)
+verify-stopped never one would input output errors (batch.Batch why) stopped is_fault few failed_in failed_out line =
+    verify-refused never one would input output errors (batch.Batch why) (file-status why) (early-of (batch.Batch why) (λ is. cc) stopped) is_fault few line
+verify-stopped never one would input output errors (batch.Circuit why) stopped is_fault few failed_in failed_out line =
+    verify-refused never one would input output errors (batch.Circuit why) (inr refl) (early-of (batch.Circuit why) (λ is. cc) stopped) is_fault few line
+
+-- nothing was taken
+takes-none : (limit : List ℕ → ℕ) (left : Option (List ℕ)) → ConsumesWithin limit left left
+takes-none limit None = tt
+takes-none limit (Some xs) = let none : 0 ≤ limit xs = omega arith in record { bytes = []; few = none; gone = Consumes-nil (Some xs) }
 
 -- no memory for the words: nothing was read or written
 pub verify-unread : (would : Counts → List Bool) (left taken : Option (List ℕ)) (reads writes : ℕ) (errors : Stream)
     → RunsVerify would (stream left left reads reads) (stream taken taken writes writes) errors 3
-verify-unread would left taken reads writes errors = record {
-  known = search rules;
-  done = λ is. absurd (omega arith);
-  stopped = λ _. inl (record { bytes = []; read = Consumes-nil left; written = TakesPrefix-refl taken _ });
-  refused = λ is. absurd (omega arith);
-  not_built = λ is. absurd (omega arith);
-  not_written = λ is. absurd (omega arith);
-  complete = λ bytes is quiet_in quiet_out. inl refl;
-}
+verify-unread would left taken reads writes errors =
+    verify-memory would (stream left left reads reads) (stream taken taken writes writes) errors
+    (record { bytes = []; read = Consumes-nil left; written = inl (Keeps-refl taken) }) (inl (takes-none (front_size None) left))
 
 -- ---- `lengths`
 

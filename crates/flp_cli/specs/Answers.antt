@@ -1,14 +1,14 @@
 -- What the program answers besides the text: the exit status, and the line on the error output.
-use Rattle.std.specs.Prelude.{ℕ, Bool, List, [], ◌∷◌, ◌++◌, Option, Some, None, ◌==◌, if◌then◌else◌, codes, decimal}
+use Rattle.std.specs.Prelude.{ℕ, Bool, List, [], ◌∷◌, ◌==◌, if◌then◌else◌, codes}
 use Rattle.std.specs.List.{list_any}
-use Rattle.flp_report.specs.declared.count_fault.CountFault.{CountFault}
-use Rattle.flp_report.specs.declared.count_fault.CountFault.TheVariants as read
-use Rattle.flp_report.specs.declared.count_fault.CountBatchFault.TheVariants.{Truncated, Trailing}
+use Rattle.flp_report.specs.declared.fault.BatchFault.{BatchFault}
+use Rattle.flp_report.specs.declared.fault.BatchFault.TheVariants as file
+use Rattle.flp_batch.specs.declared.fault.EngineFault.{EngineFault}
+use Rattle.flp_batch.specs.declared.fault.EngineFault.TheVariants as batch
 use Rattle.flp_lines.specs.Circuit.{circuit_line}
+use Rattle.flp_lines.specs.Batch.{batch_line}
 use Rattle.flp_lengths.specs.declared.command.LengthsFault.{LengthsFault}
 use Rattle.flp_lengths.specs.declared.command.LengthsFault.TheVariants as lengths
-use Rattle.flp_cli.specs.declared.fault.Fault.{Fault}
-use Rattle.flp_cli.specs.declared.fault.Fault.TheVariants.{Memory, Read, Write, NotBuilt, Batch}
 
 -- the status is one of these
 abbrev pub is_among : ℕ → List ℕ → Bool
@@ -16,40 +16,51 @@ is_among status statuses = list_any (λ s. s == status) statuses
 
 -- the exit statuses that there are
 abbrev pub is_status : ℕ → Bool
-is_status status = is_among status (0 ∷ 2 ∷ 3 ∷ 4 ∷ 5 ∷ 6 ∷ 7 ∷ 10 ∷ [])
+is_status status = is_among status (0 ∷ 2 ∷ 3 ∷ 4 ∷ 5 ∷ 6 ∷ 7 ∷ [])
 
--- the exit status of each fault of `verify`
-abbrev pub status_of : Fault → ℕ
-status_of Memory = 3
-status_of Read = 4
-status_of Write = 5
-status_of (Batch fault) = 6
-status_of NotBuilt = 10
+-- the lines of failures that no file explains
+abbrev pub memory_line : List ℕ
+memory_line = codes "flp: no memory\n"
 
--- the exit status that the bytes of the input alone decide
-abbrev pub status_for : Option CountFault → ℕ
-status_for None = 0
-status_for (Some read.Memory) = 3
-status_for (Some read.Failed) = 4
-status_for (Some (read.Batch fault)) = 6
-status_for (Some read.NotBuilt) = 10
+abbrev pub read_line : List ℕ
+read_line = codes "flp: read fault\n"
+
+abbrev pub write_line : List ℕ
+write_line = codes "flp: write fault\n"
 
 -- the line where the words are no job
 abbrev pub usage_line : List ℕ
 usage_line = codes "flp: usage: flp verify, prove, lengths, prep, explain or trial\n"
 
--- the line of an input that ended after the first number of bytes, where the second was needed
-abbrev pub truncated_line : ℕ → ℕ → List ℕ
-truncated_line have need = (codes "flp: batch: truncated " ++ decimal have) ++ (codes " " ++ decimal need) ++ codes "\n"
+-- the exit status of a file's fault; a text that is too long is a refused circuit
+abbrev pub file_status : BatchFault → ℕ
+file_status file.Magic = 6
+file_status (file.Version version) = 6
+file_status (file.Shares shares) = 6
+file_status (file.Proofs proofs) = 6
+file_status (file.TextLength length) = 7
+file_status (file.ClaimsOrder claim) = 6
+file_status (file.TooLarge size) = 6
+file_status (file.Truncated have need) = 6
+file_status file.Trailing = 6
+file_status (file.Word place word) = 6
+file_status (file.Party shares) = 6
 
--- the line of each fault of `verify`
-abbrev pub line_of_fault : Fault → List ℕ
-line_of_fault Memory = codes "flp: no memory\n"
-line_of_fault Read = codes "flp: read fault\n"
-line_of_fault Write = codes "flp: write fault\n"
-line_of_fault NotBuilt = codes "flp: not built\n"
-line_of_fault (Batch (Truncated have need)) = truncated_line have need
-line_of_fault (Batch Trailing) = codes "flp: batch: trailing\n"
+-- the exit status of each fault of a command on a batch
+abbrev pub batch_status : EngineFault → ℕ
+batch_status batch.Memory = 3
+batch_status batch.Read = 4
+batch_status batch.Write = 5
+batch_status (batch.Batch fault) = file_status fault
+batch_status (batch.Circuit fault) = 7
+
+-- the line of each fault of a command on a batch
+abbrev pub engine_line : EngineFault → List ℕ
+engine_line batch.Memory = memory_line
+engine_line batch.Read = read_line
+engine_line batch.Write = write_line
+engine_line (batch.Batch fault) = batch_line fault
+engine_line (batch.Circuit fault) = circuit_line fault
 
 -- the exit status of each fault of `lengths`
 abbrev pub lengths_status : LengthsFault → ℕ
@@ -60,17 +71,16 @@ lengths_status (lengths.Circuit fault) = 7
 
 -- the line of each fault of `lengths`
 abbrev pub lengths_line : LengthsFault → List ℕ
-lengths_line lengths.Memory = line_of_fault Memory
-lengths_line lengths.Read = line_of_fault Read
-lengths_line lengths.Write = line_of_fault Write
+lengths_line lengths.Memory = memory_line
+lengths_line lengths.Read = read_line
+lengths_line lengths.Write = write_line
 lengths_line (lengths.Circuit fault) = circuit_line fault
 
 -- the line of each status but 6 and 7, whose lines tell the fault of the batch and of the circuit
 abbrev pub line_for : ℕ → List ℕ
 line_for status =
     if status == 2 then usage_line
-    else (if status == 3 then line_of_fault Memory
-    else (if status == 4 then line_of_fault Read
-    else (if status == 5 then line_of_fault Write
-    else (if status == 10 then line_of_fault NotBuilt
-    else []))))
+    else (if status == 3 then memory_line
+    else (if status == 4 then read_line
+    else (if status == 5 then write_line
+    else [])))

@@ -1,12 +1,9 @@
+-- What the program does, from its answers up to a run of each command.
+-- statuses and lines
 pub mod Answers
-pub mod Text
-pub mod Laws
+-- what a run of `verify` wrote, where the policies allow it
 pub mod Reply
-pub mod Engine
-pub mod Progress
-pub mod Verdicts
-pub mod Count
-pub mod Policy
-pub mod Fault
+-- an input or an output over a run
 pub mod Stream
+-- a run of each command
 pub mod Runs

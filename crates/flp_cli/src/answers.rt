@@ -2,49 +2,48 @@
 ghost use Rattle.std.specs.Prelude.{◌≡◌, OnOk};
 ghost use Rattle.std.specs.Io.KnownBytes.{Appends};
 ghost use Rattle.flp_io.specs.Faults.{HasCause};
-ghost use Rattle.flp_cli.specs.Answers.{status_of, truncated_line, line_of_fault, lengths_status, lengths_line, usage_line};
+ghost use Rattle.flp_cli.specs.Answers.{file_status, batch_status, engine_line, lengths_status, lengths_line, memory_line, usage_line};
 
-use crate::fault::Fault;
 use flp_io::{Failed, Sink, put};
 use flp_lengths::LengthsFault;
-use flp_lines::{put_circuit_fault, put_numbered};
-use flp_report::CountBatchFault;
+use flp_lines::{put_batch_fault, put_circuit_fault};
+use flp_report::BatchFault;
+use flp_verify::EngineFault;
 
-/// The exit status of a fault of `verify`.
-pub fn status(fault: Fault) -> u8
-    ensures { result ≡ status_of fault }
+/// The exit status of a fault of the file.
+fn file_status(fault: BatchFault) -> u8
+    ensures { result ≡ file_status fault }
 {
     match fault {
-        Fault::Memory => 3,
-        Fault::Read => 4,
-        Fault::Write => 5,
-        Fault::Batch(_) => 6,
-        Fault::NotBuilt => 10,
+        BatchFault::TextLength(_) => 7,
+        _ => 6,
     }
 }
 
-/// Writes the line of an input that ended too early.
-fn put_truncated<E: Sink>(errors: &mut E, have: u64, need: u64) -> Result<(), Failed>
-    ensures bytes { OnOk result (Appends (E.taken errors.old) (E.taken errors.new) (truncated_line have need)) }
-    ensures cause { HasCause (E.faults errors.old) (E.faults errors.new) result }
+/// The exit status of a fault of a command on a batch.
+pub fn batch_status(fault: EngineFault) -> u8
+    ensures { result ≡ batch_status fault }
 {
-    put_numbered(errors, b"flp: batch: truncated ", have)?;
-    put_numbered(errors, b" ", need)?;
-    put(errors, b"\n")
+    match fault {
+        EngineFault::Memory => 3,
+        EngineFault::Read => 4,
+        EngineFault::Write => 5,
+        EngineFault::Batch(fault) => file_status(fault),
+        EngineFault::Circuit(_) => 7,
+    }
 }
 
-/// Writes the line of a fault of `verify`. It takes no memory.
-pub fn put_fault<E: Sink>(errors: &mut E, fault: Fault) -> Result<(), Failed>
-    ensures bytes { OnOk result (Appends (E.taken errors.old) (E.taken errors.new) (line_of_fault fault)) }
+/// Writes the line of a fault of a command on a batch. It takes no memory.
+pub fn put_engine_fault<E: Sink>(errors: &mut E, fault: EngineFault) -> Result<(), Failed>
+    ensures bytes { OnOk result (Appends (E.taken errors.old) (E.taken errors.new) (engine_line fault)) }
     ensures cause { HasCause (E.faults errors.old) (E.faults errors.new) result }
 {
     match fault {
-        Fault::Memory => put(errors, b"flp: no memory\n"),
-        Fault::Read => put(errors, b"flp: read fault\n"),
-        Fault::Write => put(errors, b"flp: write fault\n"),
-        Fault::NotBuilt => put(errors, b"flp: not built\n"),
-        Fault::Batch(CountBatchFault::Trailing) => put(errors, b"flp: batch: trailing\n"),
-        Fault::Batch(CountBatchFault::Truncated(have, need)) => put_truncated(errors, have, need),
+        EngineFault::Memory => put(errors, b"flp: no memory\n"),
+        EngineFault::Read => put(errors, b"flp: read fault\n"),
+        EngineFault::Write => put(errors, b"flp: write fault\n"),
+        EngineFault::Batch(fault) => put_batch_fault(errors, fault),
+        EngineFault::Circuit(fault) => put_circuit_fault(errors, fault),
     }
 }
 
@@ -66,11 +65,19 @@ pub fn put_lengths_fault<E: Sink>(errors: &mut E, fault: LengthsFault) -> Result
     ensures cause { HasCause (E.faults errors.old) (E.faults errors.new) result }
 {
     match fault {
-        LengthsFault::Memory => put_fault(errors, Fault::Memory),
-        LengthsFault::Read => put_fault(errors, Fault::Read),
-        LengthsFault::Write => put_fault(errors, Fault::Write),
+        LengthsFault::Memory => put_memory(errors),
+        LengthsFault::Read => put(errors, b"flp: read fault\n"),
+        LengthsFault::Write => put(errors, b"flp: write fault\n"),
         LengthsFault::Circuit(fault) => put_circuit_fault(errors, fault),
     }
+}
+
+/// Writes the line of want of memory. It takes none.
+pub fn put_memory<E: Sink>(errors: &mut E) -> Result<(), Failed>
+    ensures bytes { OnOk result (Appends (E.taken errors.old) (E.taken errors.new) memory_line) }
+    ensures cause { HasCause (E.faults errors.old) (E.faults errors.new) result }
+{
+    put(errors, b"flp: no memory\n")
 }
 
 /// Writes the line of words that are no job. It takes no memory.

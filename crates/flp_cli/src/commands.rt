@@ -1,25 +1,24 @@
 //! The commands, each with the line that it says where it fails, and its status.
-ghost use Rattle.std.specs.Prelude.{◌≡◌, ◌≢◌, ◌⊎◌, ℕ, Bool, List, Ok, Err, Some, MatchResult, OnOk, OnErr, IfSome, IsTrue};
+ghost use Rattle.std.specs.Prelude.{◌≡◌, ◌≢◌, ◌⊎◌, ℕ, Bool, List, Ok, Err, None, MatchResult, OnOk, OnErr, IfErr, IfSome, IsTrue};
 ghost use Rattle.std.specs.Io.KnownBytes.{Appends, Keeps};
 ghost use Rattle.flp_io.specs.Faults.{Rose};
-ghost use Rattle.flp_report.specs.CountBatch.{fault_of};
-ghost use Rattle.flp_report.specs.declared.count_fault.CountBatchFault.{CountBatchFault};
 ghost use Rattle.flp_load.specs.declared.fault.CircuitFault.{CircuitFault};
+ghost use Rattle.flp_policy.specs.Policy.{Counts};
+ghost use Rattle.flp_batch.specs.Fault.{IfFile};
+ghost use Rattle.flp_batch.specs.File.{IsFault};
+ghost use Rattle.flp_batch.specs.Batch.{TakesFew as TakesFewOfBatch};
+ghost use Rattle.flp_batch.specs.Reply.{WritesText, StopsInText, StopsEarly};
+ghost use Rattle.flp_verify.specs.Text.{lines_by, text_by};
 ghost use Rattle.flp_lengths.specs.Reading.{TakesFew};
 ghost use Rattle.flp_lengths.specs.Reply.{WritesLengths, StopsInLengths, RefusesText};
-ghost use Rattle.flp_cli.specs.Answers.{is_status, line_of_fault, lengths_line, line_for};
-ghost use Rattle.flp_cli.specs.Policy.{Counts};
-ghost use Rattle.flp_cli.specs.Reply.{WritesText, StopsInText, StopsEarly};
+ghost use Rattle.flp_cli.specs.Answers.{is_status, engine_line, lengths_line, line_for};
 ghost use Rattle.flp_cli.specs.Stream.{stream};
 ghost use Rattle.flp_cli.specs.Runs.{RunsVerify, RunsLengths};
 
-use crate::answers::{lengths_status, put_fault, put_lengths_fault, status};
-use crate::fault::Fault;
-use crate::verify::verify;
+use crate::answers::{batch_status, lengths_status, put_engine_fault, put_lengths_fault};
 use flp_io::{Sink, Source};
 use flp_lengths::{LengthsFault, lengths};
-use flp_load::laws::one_answer;
-use flp_report::CountFault;
+use flp_verify::{EngineFault, verify};
 use std::alloc::Global;
 
 /// Does `verify`, and says on `errors` why where it fails.
@@ -28,23 +27,21 @@ fn do_verify<S: Source, K: Sink, E: Sink>(
     input: &mut S,
     output: &mut K,
     errors: &mut E,
-) -> Result<(), Fault>
-    ensures done { OnOk result (WritesText (S.left input.old) (S.left input.new) (K.taken output.old) (K.taken output.new)) }
-    ensures stopped { OnErr result (StopsEarly (S.left input.old) (S.left input.new) (K.taken output.old) (K.taken output.new)
-        ⊎ ((result ≡ Err Fault.Write) × StopsInText (S.left input.old) (S.left input.new) (K.taken output.old) (K.taken output.new))) }
-    ensures refused { (fault : CountBatchFault) → result ≡ Err (Fault.Batch fault)
-        → IfSome (S.left input.old) (λ bytes. fault_of bytes ≡ Some (CountFault.Batch fault)) }
-    ensures not_built { result ≡ Err Fault.NotBuilt → IfSome (S.left input.old) (λ bytes. fault_of bytes ≡ Some CountFault.NotBuilt) }
-    ensures not_written { result ≡ Err Fault.NotBuilt → Keeps (K.taken output.old) (K.taken output.new) }
-    ensures read { result ≡ Err Fault.Read → Rose (S.faults input.old) (S.faults input.new) }
-    ensures write { result ≡ Err Fault.Write → Rose (K.faults output.old) (K.faults output.new) }
+) -> Result<(), EngineFault>
+    ensures done { OnOk result (WritesText None text_by (S.left input.old) (S.left input.new) (K.taken output.old) (K.taken output.new)) }
+    ensures stopped { OnErr result (StopsEarly None lines_by (S.left input.old) (S.left input.new) (K.taken output.old) (K.taken output.new)
+        ⊎ ((result ≡ Err EngineFault.Write) × StopsInText None text_by (S.left input.old) (S.left input.new) (K.taken output.old) (K.taken output.new))) }
+    ensures fault { IfErr result (λ fault. IfFile fault (λ f. IfSome (S.left input.old) (λ bytes. IsFault None bytes f))) }
+    ensures few { TakesFewOfBatch None (S.left input.old) (S.left input.new) }
+    ensures read { result ≡ Err EngineFault.Read → Rose (S.faults input.old) (S.faults input.new) }
+    ensures write { result ≡ Err EngineFault.Write → Rose (K.faults output.old) (K.faults output.new) }
     ensures line { (Rose (E.faults errors.old) (E.faults errors.new) → ⊥) → MatchResult result
-        (λ _. Keeps (E.taken errors.old) (E.taken errors.new)) (λ fault. Appends (E.taken errors.old) (E.taken errors.new) (line_of_fault fault)) }
+        (λ _. Keeps (E.taken errors.old) (E.taken errors.new)) (λ fault. Appends (E.taken errors.old) (E.taken errors.new) (engine_line fault)) }
 {
     match verify(alloc, input, output) {
         Ok(()) => Ok(()),
         Err(fault) => {
-            let _said = put_fault(errors, fault);
+            let _said = put_engine_fault(errors, fault);
             Err(fault)
         }
     }
@@ -68,9 +65,10 @@ pub fn run_verify<S: Source, K: Sink, E: Sink>(
     ensures line { (Rose (E.faults errors.old) (E.faults errors.new) → ⊥) → result ≢ 6 → result ≢ 7
         → Appends (E.taken errors.old) (E.taken errors.new) (line_for result) }
 {
+    flp_batch::laws::one_answer();
     match do_verify(alloc, input, output, errors) {
         Ok(()) => 0,
-        Err(fault) => status(fault),
+        Err(fault) => batch_status(fault),
     }
 }
 
@@ -120,7 +118,7 @@ pub fn run_lengths<S: Source, K: Sink, E: Sink>(
     ensures line { (Rose (E.faults errors.old) (E.faults errors.new) → ⊥) → result ≢ 6 → result ≢ 7
         → Appends (E.taken errors.old) (E.taken errors.new) (line_for result) }
 {
-    one_answer();
+    flp_load::laws::one_answer();
     match do_lengths(alloc, input, output, errors) {
         Ok(()) => 0,
         Err(fault) => lengths_status(fault),

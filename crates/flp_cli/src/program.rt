@@ -1,17 +1,20 @@
 //! The top call, which does all that the program does.
-ghost use Rattle.std.specs.Prelude.{◌≡◌, ◌≢◌, ◌<◌, ◌⊎◌, ℕ, List, map, vec_len, None, Some, IsTrue};
+ghost use Rattle.std.specs.Prelude.{◌≡◌, ◌≢◌, ◌<◌, ◌⊎◌, ℕ, List, Option, map, vec_len, None, Some, IsTrue};
 ghost use Rattle.std.specs.Io.KnownBytes.{Appends};
 ghost use Rattle.flp_io.specs.Faults.{Rose};
 ghost use Rattle.flp_words.specs.Job.{job_in};
 ghost use Rattle.flp_cli.specs.Answers.{is_status, line_for};
-ghost use Rattle.flp_cli.specs.Laws.{JudgesOnce, AcceptsHonest};
+ghost use Rattle.flp_syntax.specs.Tree.{Program};
+ghost use Rattle.flp_syntax.specs.declared.syntax.Params.{Params};
+ghost use Rattle.flp_report.specs.declared.shape.Shape.{Shape};
+ghost use Rattle.flp_load.specs.Loaded.{IsLoaded};
+ghost use Rattle.flp_verdict.specs.Laws.{JudgesOnce, AcceptsHonest, SumsMeasurements};
 ghost use Rattle.flp_cli.specs.Stream.{stream};
 ghost use Rattle.flp_cli.specs.Runs.{RunsVerify, RunsLengths};
 
-use crate::answers::{put_fault, put_usage};
+use crate::answers::{put_memory, put_usage};
 use crate::commands::{run_lengths, run_verify};
-use crate::fault::Fault;
-use crate::verdict::Policy;
+use crate::policy::Policy;
 use flp_io::{Sink, Source};
 use flp_pool::Gate;
 use flp_words::{Job, job_of};
@@ -34,9 +37,8 @@ use std::thread::Threads;
 /// | 5 | the output failed |
 /// | 6 | the input is no batch |
 /// | 7 | the circuit is refused; nothing was written |
-/// | 10 | the batch is of a kind that is not built; nothing was written |
 ///
-/// After 3, 4, 5 and 6 the output of `verify` has taken a prefix of the lines of the reports that
+/// After 3, 4, 5, 6 and 7 the output of `verify` has taken a prefix of the lines of the reports that
 /// were read whole, or, where its own fault came later, of the text; after 5 the output of `lengths`
 /// has taken a prefix of its lines. The policies are dropped untold, and the gate is not entered.
 pub fn run<R: Threads + Sync, S: Source, K: Sink, E: Sink, G: Gate>(
@@ -63,10 +65,14 @@ pub fn run<R: Threads + Sync, S: Source, K: Sink, E: Sink, G: Gate>(
         (stream (K.taken output.old) (K.taken output.new) (K.faults output.old) (K.faults output.new))
         (stream (E.taken errors.old) (E.taken errors.new) (E.faults errors.old) (E.faults errors.new)) result }
 
-    // Laws of the verdicts of `verify`: each nonce counts at its first place alone, and an honest
-    // report is accepted.
-    ensures once { (reports : List (List ℕ)) → JudgesOnce reports }
-    ensures honest { (reports : List (List ℕ)) → AcceptsHonest reports }
+    // Laws of the verdicts of `verify`, for the circuit of every text: each nonce counts at its first
+    // place alone, and not where it is an old claim; an honest report is accepted, or in the domain
+    // where a query point is; and the aggregate of encoded measurements is their sum, where that is
+    // below p.
+    ensures once { (program : Program) (shape : Shape) (claims reports : List (List ℕ)) → JudgesOnce program shape claims reports }
+    ensures honest { (text : List ℕ) (params : Option Params) (program : Program) → IsLoaded text params program
+        → (shape : Shape) (claims reports : List (List ℕ)) → AcceptsHonest program shape claims reports }
+    ensures sums { (params : Params) (shape : Shape) (claims reports : List (List ℕ)) → SumsMeasurements params shape claims reports }
 
     // Words without a job.
     ensures no_job { result ≡ 2 → job_in (map (λ w. w.now) words.now) ≡ None }
@@ -83,6 +89,9 @@ pub fn run<R: Threads + Sync, S: Source, K: Sink, E: Sink, G: Gate>(
     ensures line { (Rose (E.faults errors.old) (E.faults errors.new) → ⊥) → result ≢ 6 → result ≢ 7
         → Appends (E.taken errors.old) (E.taken errors.new) (line_for result) }
 {
+    flp_verdict::laws::once();
+    flp_verify::laws::honest();
+    flp_verdict::laws::sums();
     let _policies = policies;
     match job_of(alloc, words) {
         Ok(Some(Job::Verify(_))) => run_verify(alloc, input, output, errors),
@@ -92,7 +101,7 @@ pub fn run<R: Threads + Sync, S: Source, K: Sink, E: Sink, G: Gate>(
             2
         }
         Err(_) => {
-            let _said = put_fault(errors, Fault::Memory);
+            let _said = put_memory(errors);
             3
         }
     }

@@ -1,6 +1,5 @@
 // What `run` answers, writes and says on small batches, with values worked out by hand.
-use crate::{Claim, Gate, NoGate, Policy, Verdict, run};
-use flp_field::Fe;
+use crate::{Gate, NoGate, Policy, Verdict, run};
 use flp_io::{MemorySink, MemorySource, fill};
 use std::alloc::{AllocError, Global};
 use std::process::Abort;
@@ -329,22 +328,85 @@ fn faults_of_the_batch(rt: HostRuntime) -> Result<(), Fail> {
             left: 127,
         },
         Broken {
-            size: 32,
-            at: 12,
-            byte: 3,
-            status: 10,
-            line: b"flp: not built\n",
+            size: 162,
+            at: 0,
+            byte: b'G',
+            status: 6,
+            line: b"flp: batch: magic\n",
             written: b"",
-            left: 0,
+            left: 130,
+        },
+        Broken {
+            size: 162,
+            at: 8,
+            byte: 2,
+            status: 6,
+            line: b"flp: batch: version 2\n",
+            written: b"",
+            left: 130,
+        },
+        Broken {
+            size: 162,
+            at: 12,
+            byte: 17,
+            status: 6,
+            line: b"flp: batch: shares 17\n",
+            written: b"",
+            left: 130,
+        },
+        Broken {
+            size: 162,
+            at: 16,
+            byte: 0,
+            status: 6,
+            line: b"flp: batch: proofs 0\n",
+            written: b"",
+            left: 130,
+        },
+        Broken {
+            size: 162,
+            at: 22,
+            byte: 2,
+            status: 7,
+            line: b"flp: circuit: text length 131082\n",
+            written: b"",
+            left: 130,
         },
         Broken {
             size: 162,
             at: 36,
             byte: b'C',
-            status: 10,
-            line: b"flp: not built\n",
+            status: 7,
+            line: b"flp: circuit: syntax 1\n",
             written: b"",
             left: 120,
+        },
+        Broken {
+            size: 162,
+            at: 31,
+            byte: 1,
+            status: 6,
+            line: b"flp: batch: too large 2013266082\n",
+            written: b"",
+            left: 120,
+        },
+        Broken {
+            size: 162,
+            at: 24,
+            byte: 1,
+            status: 6,
+            line: b"flp: batch: truncated 162 178\n",
+            written: b"",
+            left: 0,
+        },
+        Broken {
+            size: 162,
+            at: 12,
+            byte: 3,
+            status: 6,
+            line: b"flp: batch: truncated 162 210\n",
+            written: b"",
+            left: 0,
         },
     ];
     for file in &files {
@@ -368,30 +430,6 @@ fn faults_of_the_batch(rt: HostRuntime) -> Result<(), Fail> {
         assert_eq!(rt; output.taken(), file.written);
         let mut rest = [0; 200];
         assert_eq!(rt; fill(&mut input, &mut rest), Ok(file.left));
-    }
-    Ok(())
-}
-
-// Each byte in front of the records but those of the number of reports is changed in turn.
-#[test]
-fn another_head_is_not_built(rt: HostRuntime) -> Result<(), Fail> {
-    for at in (0..28).chain(32..42) {
-        let mut bytes = batch(rt.alloc(), &[(0, HONEST)])?;
-        assert!(rt; at < bytes.len());
-        bytes[at] ^= 4;
-        let mut input = source(rt.alloc(), bytes);
-        let mut output = sink(rt.alloc())?;
-        let mut errors = sink(rt.alloc())?;
-        let status = run_on(
-            &rt,
-            rt.alloc(),
-            &VERIFY,
-            &mut input,
-            &mut output,
-            &mut errors,
-        )?;
-        assert_eq!(rt; status, 10, "with another byte {at}");
-        assert_eq!(rt; output.taken(), b"".as_slice());
     }
     Ok(())
 }
@@ -612,29 +650,13 @@ fn failures_of_lengths(rt: HostRuntime) -> Result<(), Fail> {
     Ok(())
 }
 
-fn word(value: u64) -> Result<Fe, Fail> {
-    Ok(Fe::new(value).ok_or("a word")?)
-}
-
 #[test]
-fn a_claim_a_policy_and_a_gate(rt: HostRuntime) -> Result<(), Fail> {
-    let claim = Claim {
-        x: word(1)?,
-        first: word(3)?,
-        second: word(5)?,
-        constant: word(6)?,
-        linear: word(7)?,
-        square: word(2)?,
-        query: word(2)?,
-    };
-    let verdict = claim.verdict();
-    assert_eq!(rt; verdict, Verdict::Accepted);
-    assert!(rt; verdict.is_accepted());
+fn a_policy_and_a_gate(rt: HostRuntime) -> Result<(), Fail> {
     let heard = Arc::new(rt.alloc(), AtomicU32::new(0))?;
     let mut policy = Never {
         heard: heard.clone()?,
     };
-    policy.tell(verdict);
+    policy.tell(Verdict::Accepted);
     assert!(rt; !policy.release());
     assert_eq!(rt; heard.load(Ordering::SeqCst), 2);
     NoGate.enter(0);
