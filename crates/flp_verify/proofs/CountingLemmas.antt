@@ -52,31 +52,21 @@ sum-last n rows row old new is size each =
     let last : column (rows ++ row ∷ []) k ≡ column rows k + get_or row k 0 = column-last rows row k in
     omega arith)
 
--- one row more is counted and summed up
-pub SumUp-more : (outs : ℕ) (rows : List (List ℕ)) (row : List ℕ) (old new : Totals) → totals.SumUp outs rows old
-    → totals.accepted_in new ≡ totals.accepted_in old + 1 → length (totals.sums_in new) ≡ length (totals.sums_in old)
-    → ((k : ℕ) → k < length (totals.sums_in old) → get_or (totals.sums_in new) k 0 ≡ word_sum (get_or (totals.sums_in old) k 0) (get_or row k 0))
-    → totals.SumUp outs (rows ++ row ∷ []) new
-SumUp-more outs rows row old new up counted size each = record {
-  accepted =
-      let long : length (rows ++ row ∷ []) ≡ length rows + 1 = length-append rows (row ∷ []) in
-      let before : totals.accepted_in old ≡ length rows = up.accepted in
-      omega arith;
-  sums = sum-last outs rows row (totals.sums_in old) (totals.sums_in new) up.sums size each;
-}
+-- one row more is counted
+pub counted-more : (rows : List (List ℕ)) (row : List ℕ) (count : ℕ) → count ≡ length rows → count + 1 ≡ length (rows ++ row ∷ [])
+counted-more rows row count is =
+    let long : length (rows ++ row ∷ []) ≡ length rows + 1 = length-append rows (row ∷ []) in
+    omega arith
 
--- no row: as many sums as there are words, each 0
-pub SumUp-none : (outs : ℕ) (new : Totals) → totals.accepted_in new ≡ 0 → totals.sums_in new ≡ replicate outs 0 → totals.SumUp outs [] new
-SumUp-none outs new none zeros = record {
-  accepted = none;
-  sums =
-      zeros
-      ∙ sum_of_lists_from outs (replicate outs 0) [] (length-replicate outs 0)
-      (λ (k : ℕ) (below : k < outs).
-      let zero : get_or (replicate outs 0) k 0 ≡ 0 = get_or-replicate outs k 0 0 below in
-      let column : column [] k % modulus ≡ 0 = refl in
-      zero ∙ sym column);
-}
+-- of no row each sum is 0
+pub sum-none : (outs : ℕ) (sums : List ℕ) → sums ≡ replicate outs 0 → sums ≡ sum_of_lists outs []
+sum-none outs sums zeros =
+    zeros
+    ∙ sum_of_lists_from outs (replicate outs 0) [] (length-replicate outs 0)
+    (λ (k : ℕ) (below : k < outs).
+    let zero : get_or (replicate outs 0) k 0 ≡ 0 = get_or-replicate outs k 0 0 below in
+    let column : column [] k % modulus ≡ 0 = refl in
+    zero ∙ sym column)
 
 -- ---- records
 
