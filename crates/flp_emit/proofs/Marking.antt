@@ -1,5 +1,6 @@
 -- Marks of parts, as they are read and made.
 use Rattle.std.proofs.Common.{◌≡◌, ℕ, ◌+◌, Bool, true, List, [], ◌∷◌, ◌++◌, length, get_or, sym, subst, ap, ◌∙◌, ◌-◌, set, arith, append_assoc, length-append}
+use Rattle.std.proofs.lemmas.List.{append-nil}
 use Rattle.std.proofs.Math.Seq.{set-append_seam, get_or-append_seam}
 use Rattle.flp_syntax.specs.Tree.{Tree, Items, item_on, Trees, tree_on, Argument, one, each_arg, Arguments, arg_on, Statement, check, out, each, Statements, stmt_on}
 use Rattle.flp_syntax.specs.Sorts.{is_shared}
@@ -10,6 +11,9 @@ use Rattle.flp_emit.specs.Marks.{marked, marks_inside, item_marks, factor_marks,
 
 pub begins_first : {marks : List Mark} (part more : List Mark) → BeginWith marks (part ++ more) → BeginWith marks part
 begins_first part more (rest, e) = (more ++ rest, e ∙ append_assoc part more rest)
+
+pub begins_all : {marks : List Mark} (part : List Mark) → marks ≡ part → BeginWith marks part
+begins_all part e = ([], e ∙ sym (append-nil part))
 
 -- what is said of the first of any marks, at those of an expression
 pub first_sort : {marks : List Mark} {result : Bool} (tree : Tree)
