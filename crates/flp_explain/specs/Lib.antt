@@ -1,0 +1,5 @@
+-- What is found of the proofs of a record, up to the text of the command `explain`.
+-- the weak word of a proof of a record
+pub mod Found
+-- how many values of it let a false record through
+pub mod Laws

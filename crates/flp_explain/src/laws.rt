@@ -1,0 +1,18 @@
+//! What a weak word says of the verdict on a record, the contract of a function that does nothing. The definitions are
+//! in `specs/Laws.antt`.
+ghost use Rattle.std.specs.Prelude.{ℕ, List, Option};
+ghost use Rattle.flp_syntax.specs.Tree.{Program};
+ghost use Rattle.flp_syntax.specs.declared.syntax.Params.{Params};
+ghost use Rattle.flp_report.specs.declared.shape.Shape.{Shape};
+ghost use Rattle.flp_load.specs.Loaded.{IsLoaded};
+ghost use Rattle.flp_worker.specs.Worker.{IsShapeOf};
+ghost use Rattle.flp_explain.specs.Laws.{LimitsFalseReports};
+
+/// A record of words of the field, whose unshared encoding fails under the joint words of one of its proofs, is
+/// accepted for few values of one query word of that proof, the other words fixed and its nonce new: for at most as
+/// many as the bound of the proof's weak word, which is 1 where that word combines checks, and for the point of a
+/// gadget at most the gadget's degree times the points of its domain less one.
+pub fn false_reports()
+    ensures { (text : List ℕ) (params : Option Params) (program : Program) → IsLoaded text params program
+        → (shape : Shape) → IsShapeOf program shape → LimitsFalseReports program shape }
+{}
