@@ -8,7 +8,9 @@ ghost use Rattle.flp_syntax.specs.Tree.{Program};
 ghost use Rattle.flp_syntax.specs.declared.syntax.Params.{Params};
 ghost use Rattle.flp_report.specs.declared.shape.Shape.{Shape};
 ghost use Rattle.flp_load.specs.Loaded.{IsLoaded};
+ghost use Rattle.flp_worker.specs.Worker.{IsShapeOf};
 ghost use Rattle.flp_verdict.specs.Laws.{JudgesOnce, AcceptsHonest, SumsMeasurements};
+ghost use Rattle.flp_explain.specs.Laws.{LimitsFalseReports};
 ghost use Rattle.flp_cli.specs.Stream.{stream};
 ghost use Rattle.flp_cli.specs.Runs.{RunsVerify, RunsLengths};
 
@@ -67,11 +69,14 @@ pub fn run<R: Threads + Sync, S: Source, K: Sink, E: Sink, G: Gate>(
 
     // Laws of the verdicts of `verify`, for the circuit of every text: each nonce counts at its first
     // place alone, and not where it is an old claim; an honest report is accepted, or in the domain
-    // where a query point is; and the aggregate of encoded measurements is their sum, where that is
-    // below p.
+    // where a query point is; of a false one a single query word, the others fixed, has few values
+    // with which it is accepted; and the aggregate of encoded measurements is their sum, where that
+    // is below p.
     ensures once { (program : Program) (shape : Shape) (claims reports : List (List ℕ)) → JudgesOnce program shape claims reports }
     ensures honest { (text : List ℕ) (params : Option Params) (program : Program) → IsLoaded text params program
         → (shape : Shape) (claims reports : List (List ℕ)) → AcceptsHonest program shape claims reports }
+    ensures few { (text : List ℕ) (params : Option Params) (program : Program) → IsLoaded text params program
+        → (shape : Shape) → IsShapeOf program shape → LimitsFalseReports program shape }
     ensures sums { (params : Params) (shape : Shape) (claims reports : List (List ℕ)) → SumsMeasurements params shape claims reports }
 
     // Words without a job.
@@ -91,6 +96,7 @@ pub fn run<R: Threads + Sync, S: Source, K: Sink, E: Sink, G: Gate>(
 {
     flp_verdict::laws::once();
     flp_verify::laws::honest();
+    flp_explain::laws::false_reports();
     flp_verdict::laws::sums();
     let _policies = policies;
     match job_of(alloc, words) {
