@@ -1,11 +1,11 @@
-use Rattle.std.proofs.Common.{ℕ, Option, Some, List, inl}
+use Rattle.std.proofs.Common.{ℕ, Option, Some, List}
 use Rattle.std.specs.Prelude.{IfSome}
 use Rattle.std.proofs.KnownBytes.{Keeps-refl}
 use Rattle.flp_io.proofs.ReadLemmas.{ConsumesSome-of}
 use Rattle.flp_report.specs.Reader.{source_of}
 use Rattle.flp_batch.specs.declared.fault.EngineFault.{EngineFault}
 use Rattle.flp_batch.specs.File.{IsFault}
-use Rattle.flp_batch.specs.Opened.{Opens}
+use Rattle.flp_batch.specs.Opened.{Opens, setting_of}
 use Rattle.flp_batch.proofs.BatchLemmas.{TakesFew-behind}
 use Rattle.flp_batch.proofs.OutcomeLemmas.{OnOk-map, OnErr-map, OnErr-always}
 use Rattle.flp_batch.proofs.ReaderLemmas.{ConsumesAtMost-none}
@@ -31,14 +31,14 @@ returns-clause-done g c =
     let made = c.in_ok-preparing in
     OnOk-map c.walk.result c.walk.ensures.done (λ all first opens.
     WritesText-lines (Some c.args.party) c.args.opened.now _ _ (lines_by c.args.party) first _ _ _
-    (lines-same made.preparing _ c.args.party made.ensures.setting made.ensures.party) (all (Some c.args.party) first opens))
+    (lines-same made.preparing (setting_of c.args.opened.now) c.args.party made.ensures.setting made.ensures.party) (all (Some c.args.party) first opens))
 
 pub returns-clause-stopped : goal.returns-clause-stopped
 returns-clause-stopped g c =
     let made = c.in_ok-preparing in
     OnErr-map c.walk.result c.walk.ensures.stopped (λ stop first opens.
     StopsEarly-walk (Some c.args.party) c.args.opened.now _ (lines_by c.args.party) first _ _ _
-    (lines-same made.preparing _ c.args.party made.ensures.setting made.ensures.party) (stop (Some c.args.party) first opens))
+    (lines-same made.preparing (setting_of c.args.opened.now) c.args.party made.ensures.setting made.ensures.party) (stop (Some c.args.party) first opens))
 
 pub returns-clause-fault : goal.returns-clause-fault
 returns-clause-fault g c =
