@@ -1,0 +1,6 @@
+-- digits, proof after proof
+pub mod DigitLemmas
+-- the line of a record
+pub mod LineLemmas
+-- faults of the file
+pub mod FaultLemmas

@@ -1,0 +1,49 @@
+-- What `prep` writes of a batch for one party, from the digits of a word up to all lines.
+use Rattle.std.specs.Prelude.{ℕ, List, ◌++◌, codes}
+use Rattle.std.specs.List.{flat_map}
+use Rattle.hex.specs.Hex.{encode_lower}
+use Rattle.byteorder.specs.Endian.{little_bytes}
+use Rattle.flp_report.specs.Record.{nonce_in}
+use Rattle.flp_policy.specs.declared.verdict.Verdict.{Verdict}
+use Rattle.flp_policy.specs.declared.verdict.Verdict.TheVariants.{Accepted, Rejected}
+use Rattle.flp_worker.specs.Parts.{proof_numbers}
+use Rattle.flp_worker.specs.Verdict.{share_verifier}
+use Rattle.flp_verdict.specs.Verdicts.{verdict_after}
+use Rattle.flp_verdict.specs.Text.{line_with}
+use Rattle.flp_batch.specs.Setting.{Setting}
+use Rattle.flp_batch.specs.Lines as lines
+
+-- the digits of a word: its 8 bytes, the lowest first, each in two hexadecimal digits
+unfoldable pub word_digits : ℕ → List ℕ
+word_digits word = encode_lower (little_bytes 8 word)
+
+-- the digits of words, one word after another
+abbrev pub digits_of : List ℕ → List ℕ
+digits_of words = flat_map word_digits words
+
+-- the digits of the verifier words that one party's share of a record has, proof after proof
+abbrev pub verifier_digits : Setting → (party : ℕ) → (report : List ℕ) → List ℕ
+verifier_digits by party report =
+    flat_map (λ proof. digits_of (share_verifier by.circuit by.shape report party proof)) (proof_numbers by.shape)
+
+-- the line of a record that was accepted or rejected: a nonce in hexadecimal digits, and digits
+abbrev pub prep_line : (nonce digits : List ℕ) → List ℕ
+prep_line nonce digits = encode_lower nonce ++ codes " prep " ++ digits ++ codes "\n"
+
+-- the line of a record with this verdict: of every other record that of `verify`
+abbrev pub line_for : (nonce digits : List ℕ) → Verdict → List ℕ
+line_for nonce digits Accepted = prep_line nonce digits
+line_for nonce digits Rejected = prep_line nonce digits
+line_for nonce digits verdict = line_with nonce verdict
+
+-- the line of a record behind earlier ones
+abbrev pub line_by : Setting → (party : ℕ) → (earlier : List (List ℕ)) → (report : List ℕ) → List ℕ
+line_by by party earlier report =
+    line_for
+    (nonce_in report)
+    (verifier_digits by party report)
+    (verdict_after by.circuit by.shape by.claims earlier report)
+
+-- the lines of all records
+abbrev pub lines_by : (party : ℕ) → Setting → (reports : List (List ℕ)) → List ℕ
+lines_by party by reports = lines.lines_of (line_by by party) reports
