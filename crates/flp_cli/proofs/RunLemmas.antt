@@ -27,7 +27,7 @@ use Rattle.flp_lengths.specs.Reply.{WritesLengths, StopsInLengths, RefusesText}
 use Rattle.flp_cli.specs.Answers.{batch_status, engine_line, file_status, lengths_status, lengths_line}
 use Rattle.flp_cli.specs.Reply.{Verifies, StopsLate}
 use Rattle.flp_cli.specs.Stream.{Stream, stream, Failed, IsQuiet}
-use Rattle.flp_cli.specs.Runs.{Refuses, RunsVerify, RunsLengths}
+use Rattle.flp_cli.specs.Runs.{Refuses, RunsVerify, RunsLines, RunsLengths}
 use Rattle.flp_cli.proofs.StatusLemmas.{file-status, whole-read, told}
 
 -- ---- `verify`
@@ -166,6 +166,98 @@ pub verify-unread : (would : Counts → List Bool) (left taken : Option (List �
 verify-unread would left taken reads writes errors =
     verify-memory would (stream left left reads reads) (stream taken taken writes writes) errors
     (record { bytes = []; read = Consumes-nil left; written = inl (Keeps-refl taken) }) (inl (takes-none (front_size None) left))
+
+-- ---- lines of a batch
+
+lines-memory : (party : Option ℕ) (lines : Setting → List (List ℕ) → List ℕ) (input output errors : Stream) → StopsEarly party lines input.old input.new output.old output.new
+    → TakesFewOfBatch party input.old input.new → RunsLines party lines input output errors 3
+lines-memory party lines input output errors early few = record {
+  known = search rules;
+  done = λ is. absurd (omega arith);
+  stopped = λ _. early;
+  refused = λ is. absurd (⊎_elim (λ (six : 3 ≡ 6). omega arith) (λ (seven : 3 ≡ 7). omega arith) is);
+  few = few;
+  complete = λ bytes is quiet_in quiet_out params setting is_batch. inl refl;
+  refuses = λ bytes is quiet_in quiet_out fault refused. inl refl;
+}
+
+lines-read : (party : Option ℕ) (lines : Setting → List (List ℕ) → List ℕ) (input output errors : Stream) → StopsEarly party lines input.old input.new output.old output.new
+    → TakesFewOfBatch party input.old input.new → Failed input → RunsLines party lines input output errors 4
+lines-read party lines input output errors early few failed = record {
+  known = search rules;
+  done = λ is. absurd (omega arith);
+  stopped = λ _. early;
+  refused = λ is. absurd (⊎_elim (λ (six : 4 ≡ 6). omega arith) (λ (seven : 4 ≡ 7). omega arith) is);
+  few = few;
+  complete = λ bytes is quiet_in quiet_out params setting is_batch. absurd (quiet_in failed);
+  refuses = λ bytes is quiet_in quiet_out fault refused. absurd (quiet_in failed);
+}
+
+lines-write : (party : Option ℕ) (lines : Setting → List (List ℕ) → List ℕ) (input output errors : Stream) → StopsEarly party lines input.old input.new output.old output.new
+    → TakesFewOfBatch party input.old input.new → Failed output → RunsLines party lines input output errors 5
+lines-write party lines input output errors early few failed = record {
+  known = search rules;
+  done = λ is. absurd (omega arith);
+  stopped = λ _. early;
+  refused = λ is. absurd (⊎_elim (λ (six : 5 ≡ 6). omega arith) (λ (seven : 5 ≡ 7). omega arith) is);
+  few = few;
+  complete = λ bytes is quiet_in quiet_out params setting is_batch. absurd (quiet_out failed);
+  refuses = λ bytes is quiet_in quiet_out fault refused. absurd (quiet_out failed);
+}
+
+lines-refused : BatchNeverBoth → BatchOneFault → (party : Option ℕ) (lines : Setting → List (List ℕ) → List ℕ) (input output errors : Stream) (fault : EngineFault)
+    → (batch_status fault ≡ 6) ⊎ (batch_status fault ≡ 7)
+    → StopsEarly party lines input.old input.new output.old output.new
+    → IfSome input.old (λ bytes. IsFault party bytes fault) → TakesFewOfBatch party input.old input.new
+    → (IsQuiet errors → Appends errors.old errors.new (engine_line fault)) → RunsLines party lines input output errors (batch_status fault)
+lines-refused never one party lines input output errors fault six_seven early is_fault few line = record {
+  known = ⊎_elim (λ (six : batch_status fault ≡ 6). rw six (search rules)) (λ (seven : batch_status fault ≡ 7). rw seven (search rules)) six_seven;
+  done = λ is. absurd (⊎_elim (λ (six : batch_status fault ≡ 6). omega arith) (λ (seven : batch_status fault ≡ 7). omega arith) six_seven);
+  stopped = λ _. early;
+  refused = λ _. record { fault = fault; is = is_fault; status_is = refl; says = line };
+  few = few;
+  complete = λ bytes is quiet_in quiet_out params setting is_batch.
+      absurd (never party bytes params setting fault is_batch (told input.old bytes (λ b. IsFault party b fault) is is_fault));
+  refuses = λ bytes is quiet_in quiet_out other refused.
+      inr (ap batch_status (one party bytes fault other (told input.old bytes (λ b. IsFault party b fault) is is_fault) refused));
+}
+
+pub lines-done : BatchNeverBoth → (party : Option ℕ) (lines : Setting → List (List ℕ) → List ℕ) (input output errors : Stream) → WritesText party lines input.old input.new output.old output.new
+    → TakesFewOfBatch party input.old input.new → RunsLines party lines input output errors 0
+lines-done never party lines input output errors done few = record {
+  known = search rules;
+  done = λ _. done;
+  stopped = λ other. absurd (other refl);
+  refused = λ is. absurd (⊎_elim (λ (six : 0 ≡ 6). omega arith) (λ (seven : 0 ≡ 7). omega arith) is);
+  few = few;
+  complete = λ bytes is quiet_in quiet_out params setting is_batch. inr refl;
+  refuses = λ bytes is quiet_in quiet_out fault refused.
+      let all : bytes ≡ done.bytes = whole-read input.old input.new bytes done.bytes is done.read done.ended in
+      absurd (never party done.bytes done.params done.setting fault done.is_batch (subst (λ (b : List ℕ). IsFault party b fault) all refused));
+}
+
+pub lines-stopped : BatchNeverBoth → BatchOneFault → (party : Option ℕ) (lines : Setting → List (List ℕ) → List ℕ) (input output errors : Stream) (fault : EngineFault)
+    → StopsEarly party lines input.old input.new output.old output.new
+    → IfFile fault (λ f. IfSome input.old (λ bytes. IsFault party bytes f)) → TakesFewOfBatch party input.old input.new
+    → (fault ≡ batch.Read → Failed input) → (fault ≡ batch.Write → Failed output)
+    → (IsQuiet errors → Appends errors.old errors.new (engine_line fault)) → RunsLines party lines input output errors (batch_status fault)
+lines-stopped never one party lines input output errors batch.Memory early is_fault few failed_in failed_out line =
+    lines-memory party lines input output errors early few
+lines-stopped never one party lines input output errors batch.Read early is_fault few failed_in failed_out line =
+    lines-read party lines input output errors early few (failed_in refl)
+lines-stopped never one party lines input output errors batch.Write early is_fault few failed_in failed_out line =
+    lines-write party lines input output errors early few (failed_out refl)
+lines-stopped never one party lines input output errors (batch.Batch why) early is_fault few failed_in failed_out line =
+    lines-refused never one party lines input output errors (batch.Batch why) (file-status why) early is_fault few line
+lines-stopped never one party lines input output errors (batch.Circuit why) early is_fault few failed_in failed_out line =
+    lines-refused never one party lines input output errors (batch.Circuit why) (inr refl) early is_fault few line
+
+-- no memory for the words: nothing was read or written
+pub lines-unread : (party : Option ℕ) (lines : Setting → List (List ℕ) → List ℕ) (left taken : Option (List ℕ)) (reads writes : ℕ) (errors : Stream)
+    → RunsLines party lines (stream left left reads reads) (stream taken taken writes writes) errors 3
+lines-unread party lines left taken reads writes errors =
+    lines-memory party lines (stream left left reads reads) (stream taken taken writes writes) errors
+    (record { bytes = []; read = Consumes-nil left; written = inl (Keeps-refl taken) }) (inl (takes-none (front_size party) left))
 
 -- ---- `lengths`
 

@@ -12,7 +12,7 @@ use Rattle.flp_batch.specs.declared.fault.EngineFault.{EngineFault}
 use Rattle.flp_batch.specs.Setting.{Setting}
 use Rattle.flp_batch.specs.File.{IsBatch, IsFault}
 use Rattle.flp_batch.specs.Batch.{TakesFew as TakesFewOfBatch}
-use Rattle.flp_batch.specs.Reply.{StopsEarly}
+use Rattle.flp_batch.specs.Reply.{WritesText, StopsEarly}
 use Rattle.flp_verify.specs.Text.{lines_by}
 use Rattle.flp_lines.specs.Circuit.{circuit_line}
 use Rattle.flp_lengths.specs.Reading.{TakesFew}
@@ -45,6 +45,23 @@ pub record RunsVerify (would : Counts → List Bool) (input output errors : Stre
       → (params : Option Params) (setting : Setting) → IsBatch None bytes params setting → (status ≡ 3) ⊎ (status ≡ 0)
   pub refuses : (bytes : List ℕ) → input.old ≡ Some bytes → IsQuiet input → IsQuiet output
       → (fault : EngineFault) → IsFault None bytes fault → (status ≡ 3) ⊎ (status ≡ batch_status fault)
+
+-- a run of a command that writes lines of the records of a batch, and nothing behind them
+pub record RunsLines (party : Option ℕ) (lines : Setting → List (List ℕ) → List ℕ) (input output errors : Stream) (status : ℕ) : Type 0 where
+  pub known : IsTrue (is_among status (0 ∷ 3 ∷ 4 ∷ 5 ∷ 6 ∷ 7 ∷ []))
+  -- the lines, and that all was read
+  pub done : status ≡ 0 → WritesText party lines input.old input.new output.old output.new
+  -- what was written where the run ended earlier: a prefix of the lines
+  pub stopped : status ≢ 0 → StopsEarly party lines input.old input.new output.old output.new
+  -- the input is no batch, or its text no circuit's
+  pub refused : (status ≡ 6) ⊎ (status ≡ 7) → Refuses party input errors status
+  -- no more is asked for than the head's numbers give, and one byte to see the end
+  pub few : TakesFewOfBatch party input.old input.new
+  -- where nothing failed, the bytes of the input alone decide the status, but for want of memory
+  pub complete : (bytes : List ℕ) → input.old ≡ Some bytes → IsQuiet input → IsQuiet output
+      → (params : Option Params) (setting : Setting) → IsBatch party bytes params setting → (status ≡ 3) ⊎ (status ≡ 0)
+  pub refuses : (bytes : List ℕ) → input.old ≡ Some bytes → IsQuiet input → IsQuiet output
+      → (fault : EngineFault) → IsFault party bytes fault → (status ≡ 3) ⊎ (status ≡ batch_status fault)
 
 -- a run of `lengths`
 pub record RunsLengths (input output errors : Stream) (status : ℕ) : Type 0 where

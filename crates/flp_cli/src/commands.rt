@@ -1,5 +1,5 @@
 //! The commands, each with the line that it says where it fails, and its status.
-ghost use Rattle.std.specs.Prelude.{◌≡◌, ◌≢◌, ◌⊎◌, ℕ, Bool, List, Ok, Err, None, MatchResult, OnOk, OnErr, IfErr, IfSome, IsTrue};
+ghost use Rattle.std.specs.Prelude.{◌≡◌, ◌≢◌, ◌⊎◌, ℕ, Bool, List, Ok, Err, None, Some, MatchResult, OnOk, OnErr, IfErr, IfSome, IsTrue};
 ghost use Rattle.std.specs.Io.KnownBytes.{Appends, Keeps};
 ghost use Rattle.flp_io.specs.Faults.{Rose};
 ghost use Rattle.flp_load.specs.declared.fault.CircuitFault.{CircuitFault};
@@ -8,16 +8,18 @@ ghost use Rattle.flp_batch.specs.Fault.{IfFile};
 ghost use Rattle.flp_batch.specs.File.{IsFault};
 ghost use Rattle.flp_batch.specs.Batch.{TakesFew as TakesFewOfBatch};
 ghost use Rattle.flp_batch.specs.Reply.{WritesText, StopsInText, StopsEarly};
+ghost use Rattle.flp_prep.specs.Text.{lines_by as prepared_by};
 ghost use Rattle.flp_verify.specs.Text.{lines_by, text_by};
 ghost use Rattle.flp_lengths.specs.Reading.{TakesFew};
 ghost use Rattle.flp_lengths.specs.Reply.{WritesLengths, StopsInLengths, RefusesText};
 ghost use Rattle.flp_cli.specs.Answers.{is_status, engine_line, lengths_line, line_for};
 ghost use Rattle.flp_cli.specs.Stream.{stream};
-ghost use Rattle.flp_cli.specs.Runs.{RunsVerify, RunsLengths};
+ghost use Rattle.flp_cli.specs.Runs.{RunsVerify, RunsLines, RunsLengths};
 
 use crate::answers::{batch_status, lengths_status, put_engine_fault, put_lengths_fault};
 use flp_io::{Sink, Source};
 use flp_lengths::{LengthsFault, lengths};
+use flp_prep::prep;
 use flp_verify::{EngineFault, verify};
 use std::alloc::Global;
 
@@ -67,6 +69,58 @@ pub fn run_verify<S: Source, K: Sink, E: Sink>(
 {
     flp_batch::laws::one_answer();
     match do_verify(alloc, input, output, errors) {
+        Ok(()) => 0,
+        Err(fault) => batch_status(fault),
+    }
+}
+
+/// Does `prep`, and says on `errors` why where it fails.
+fn do_prep<S: Source, K: Sink, E: Sink>(
+    alloc: Global,
+    party: u32,
+    input: &mut S,
+    output: &mut K,
+    errors: &mut E,
+) -> Result<(), EngineFault>
+    ensures done { OnOk result (WritesText (Some party) (prepared_by party) (S.left input.old) (S.left input.new) (K.taken output.old) (K.taken output.new)) }
+    ensures stopped { OnErr result (StopsEarly (Some party) (prepared_by party) (S.left input.old) (S.left input.new) (K.taken output.old) (K.taken output.new)) }
+    ensures fault { IfErr result (λ fault. IfFile fault (λ f. IfSome (S.left input.old) (λ bytes. IsFault (Some party) bytes f))) }
+    ensures few { TakesFewOfBatch (Some party) (S.left input.old) (S.left input.new) }
+    ensures read { result ≡ Err EngineFault.Read → Rose (S.faults input.old) (S.faults input.new) }
+    ensures write { result ≡ Err EngineFault.Write → Rose (K.faults output.old) (K.faults output.new) }
+    ensures line { (Rose (E.faults errors.old) (E.faults errors.new) → ⊥) → MatchResult result
+        (λ _. Keeps (E.taken errors.old) (E.taken errors.new)) (λ fault. Appends (E.taken errors.old) (E.taken errors.new) (engine_line fault)) }
+{
+    match prep(alloc, party, input, output) {
+        Ok(()) => Ok(()),
+        Err(fault) => {
+            let _noted = put_engine_fault(errors, fault);
+            Err(fault)
+        }
+    }
+}
+
+/// Runs `prep`, and gives the status.
+pub fn run_prep<S: Source, K: Sink, E: Sink>(
+    alloc: Global,
+    party: u32,
+    input: &mut S,
+    output: &mut K,
+    errors: &mut E,
+) -> u8
+    ensures runs { RunsLines (Some party) (prepared_by party)
+        (stream (S.left input.old) (S.left input.new) (S.faults input.old) (S.faults input.new))
+        (stream (K.taken output.old) (K.taken output.new) (K.faults output.old) (K.faults output.new))
+        (stream (E.taken errors.old) (E.taken errors.new) (E.faults errors.old) (E.faults errors.new)) result }
+    ensures known { IsTrue (is_status result) }
+    ensures had_job { result ≢ 2 }
+    ensures read { result ≡ 4 → Rose (S.faults input.old) (S.faults input.new) }
+    ensures write { result ≡ 5 → Rose (K.faults output.old) (K.faults output.new) }
+    ensures line { (Rose (E.faults errors.old) (E.faults errors.new) → ⊥) → result ≢ 6 → result ≢ 7
+        → Appends (E.taken errors.old) (E.taken errors.new) (line_for result) }
+{
+    flp_batch::laws::one_answer();
+    match do_prep(alloc, party, input, output, errors) {
         Ok(()) => 0,
         Err(fault) => batch_status(fault),
     }

@@ -8,7 +8,8 @@
 //! `verify` reads a batch of reports on any circuit and writes one verdict a report, the count of
 //! accepted reports and their aggregate; its text is defined in `flp_verdict`, over the unshared
 //! values of the reports. `lengths` reads a circuit text and writes the lengths of its circuit; its
-//! text is defined in `flp_lengths`.
+//! text is defined in `flp_lengths`. `prep` reads a batch and writes the verifier words of one share;
+//! its text is defined in `flp_prep`.
 #![tactic(auto)]
 
 mod answers;

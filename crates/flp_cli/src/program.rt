@@ -10,12 +10,13 @@ ghost use Rattle.flp_report.specs.declared.shape.Shape.{Shape};
 ghost use Rattle.flp_load.specs.Loaded.{IsLoaded};
 ghost use Rattle.flp_worker.specs.Worker.{IsShapeOf};
 ghost use Rattle.flp_verdict.specs.Laws.{JudgesOnce, AcceptsHonest, SumsMeasurements};
+ghost use Rattle.flp_prep.specs.Text.{lines_by as prepared_by};
 ghost use Rattle.flp_explain.specs.Laws.{LimitsFalseReports};
 ghost use Rattle.flp_cli.specs.Stream.{stream};
-ghost use Rattle.flp_cli.specs.Runs.{RunsVerify, RunsLengths};
+ghost use Rattle.flp_cli.specs.Runs.{RunsVerify, RunsLines, RunsLengths};
 
 use crate::answers::{put_memory, put_usage};
-use crate::commands::{run_lengths, run_verify};
+use crate::commands::{run_lengths, run_prep, run_verify};
 use crate::policy::Policy;
 use flp_io::{Sink, Source};
 use flp_pool::Gate;
@@ -27,8 +28,10 @@ use std::thread::Threads;
 ///
 /// `verify --workers N`, N from 1 to 16, reads a batch from `input` and writes its text to
 /// `output`; one thread serves every N. `lengths` reads a circuit text, of which it asks for at
-/// most 65,537 bytes, and writes the lengths of the circuit. For each status but 0 one line goes to
-/// `errors`, whose faults change no answer.
+/// most 65,537 bytes, and writes the lengths of the circuit. `prep --party K`, K from 0 to 15, reads a
+/// batch and writes for each report the verifier words of share K alone, or the line of `verify`
+/// where no proof decided. For each status but 0 one line goes to `errors`, whose faults change no
+/// answer.
 ///
 /// | status | meaning |
 /// |---|---|
@@ -42,7 +45,8 @@ use std::thread::Threads;
 ///
 /// After 3, 4, 5, 6 and 7 the output of `verify` has taken a prefix of the lines of the reports that
 /// were read whole, or, where its own fault came later, of the text; after 5 the output of `lengths`
-/// has taken a prefix of its lines. The policies are dropped untold, and the gate is not entered.
+/// has taken a prefix of its lines, and after every status but 0 that of `prep` a prefix of the lines
+/// of the reports that were read whole. The policies are dropped untold, and the gate is not entered.
 pub fn run<R: Threads + Sync, S: Source, K: Sink, E: Sink, G: Gate>(
     _rt: &R,
     alloc: Global,
@@ -59,6 +63,10 @@ pub fn run<R: Threads + Sync, S: Source, K: Sink, E: Sink, G: Gate>(
     // status says.
     ensures verify { (workers : ℕ) → job_in (map (λ w. w.now) words.now) ≡ Some (Job.Verify workers) → RunsVerify
         (λ more. map (λ p. would p more) policies.items)
+        (stream (S.left input.old) (S.left input.new) (S.faults input.old) (S.faults input.new))
+        (stream (K.taken output.old) (K.taken output.new) (K.faults output.old) (K.faults output.new))
+        (stream (E.taken errors.old) (E.taken errors.new) (E.faults errors.old) (E.faults errors.new)) result }
+    ensures prep { (party : ℕ) → job_in (map (λ w. w.now) words.now) ≡ Some (Job.Prep party) → RunsLines (Some party) (prepared_by party)
         (stream (S.left input.old) (S.left input.new) (S.faults input.old) (S.faults input.new))
         (stream (K.taken output.old) (K.taken output.new) (K.faults output.old) (K.faults output.new))
         (stream (E.taken errors.old) (E.taken errors.new) (E.faults errors.old) (E.faults errors.new)) result }
@@ -102,6 +110,7 @@ pub fn run<R: Threads + Sync, S: Source, K: Sink, E: Sink, G: Gate>(
     match job_of(alloc, words) {
         Ok(Some(Job::Verify(_))) => run_verify(alloc, input, output, errors),
         Ok(Some(Job::Lengths)) => run_lengths(alloc, input, output, errors),
+        Ok(Some(Job::Prep(party))) => run_prep(alloc, party, input, output, errors),
         Ok(None) => {
             let _said = put_usage(errors);
             2

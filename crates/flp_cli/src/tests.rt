@@ -528,6 +528,44 @@ fn numbers_of_workers(rt: HostRuntime) -> Result<(), Fail> {
     Ok(())
 }
 
+// The verifier words of each share of the example, and a party that has none.
+#[test]
+fn verifiers_of_parties(rt: HostRuntime) -> Result<(), Fail> {
+    let parties: [(&str, u8, &[u8], &[u8]); 3] = [
+        (
+            "0",
+            0,
+            b"000102030405060708090a0b0c0d0e0f prep 0000000000000000030000000000000006000000000000001500000000000000\n",
+            b"",
+        ),
+        (
+            "1",
+            0,
+            b"000102030405060708090a0b0c0d0e0f prep 0000000000000000010000000000000001000000000000000700000000000000\n",
+            b"",
+        ),
+        ("2", 6, b"", b"flp: batch: party 2\n"),
+    ];
+    for (party, wanted, written, line) in parties {
+        let words: [&str; 4] = ["flp", "prep", "--party", party];
+        let mut input = source(rt.alloc(), batch(rt.alloc(), &[(0, HONEST)])?);
+        let mut output = sink(rt.alloc())?;
+        let mut errors = sink(rt.alloc())?;
+        let status = run_on(
+            &rt,
+            rt.alloc(),
+            &words,
+            &mut input,
+            &mut output,
+            &mut errors,
+        )?;
+        assert_eq!(rt; status, wanted);
+        assert_eq!(rt; output.taken(), written);
+        assert_eq!(rt; errors.taken(), line);
+    }
+    Ok(())
+}
+
 // What `lengths` answers, writes and says of a circuit text.
 #[derive(Drop)]
 struct Circuit<'a> {

@@ -15,6 +15,10 @@ verify_command = with_rule (new_app (codes "verify")) (required_option (codes "w
 abbrev pub lengths_command : App
 lengths_command = new_app (codes "lengths")
 
+-- `prep --party K`
+abbrev pub prep_command : App
+prep_command = with_rule (new_app (codes "prep")) (required_option (codes "party"))
+
 -- the program, with a subcommand for each command
 abbrev pub flp_command : App
-flp_command = with_subcommand (with_subcommand (new_app (codes "flp")) verify_command.top) lengths_command.top
+flp_command = with_subcommand (with_subcommand (with_subcommand (new_app (codes "flp")) verify_command.top) lengths_command.top) prep_command.top

@@ -3,7 +3,7 @@ use Rattle.std.specs.Prelude.{ℕ, List, [], ◌∷◌, Option, Some, None, opti
 use Rattle.std.specs.Str.{bytes_eq}
 use Rattle.clap.specs.Words.{Kinds, Row, Text, fault_of, first_of, subcommand_of}
 use Rattle.flp_words.specs.declared.job.Job.{Job}
-use Rattle.flp_words.specs.declared.job.Job.TheVariants.{Verify, Lengths}
+use Rattle.flp_words.specs.declared.job.Job.TheVariants.{Verify, Lengths, Prep}
 use Rattle.flp_words.specs.Number.{number_in}
 use Rattle.flp_words.specs.Commands.{flp_command}
 
@@ -15,12 +15,17 @@ number_of rows name least most = option_and_then (number_in least most) (first_o
 abbrev pub verify_job : List Row → Option Job
 verify_job rows = option_map Verify (number_of rows (codes "workers") 1 16)
 
+-- `prep` for the party of a number from 0 to 15
+abbrev pub prep_job : List Row → Option Job
+prep_job rows = option_map Prep (number_of rows (codes "party") 0 15)
+
 -- the job of a command, by its name and the matches of its options
 abbrev pub job_named : Text → List Row → Option Job
 job_named name rows =
     if bytes_eq name (codes "verify") then verify_job rows
     else (if bytes_eq name (codes "lengths") then Some Lengths
-    else None)
+    else (if bytes_eq name (codes "prep") then prep_job rows
+    else None))
 
 -- the job of the command that `clap` met
 abbrev pub job_at : Option (Text × List Row) → Option Job

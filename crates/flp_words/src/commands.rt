@@ -2,7 +2,7 @@
 ghost use Rattle.std.specs.Prelude.{◌≡◌, IfOk, false};
 ghost use Rattle.clap.specs.Words.{app_of, rule_of};
 ghost use Rattle.clap.specs.declared.builder.command.Command.TheViews.{out-Command as fields_of};
-ghost use Rattle.flp_words.specs.Commands.{required_option, verify_command, flp_command};
+ghost use Rattle.flp_words.specs.Commands.{required_option, verify_command, prep_command, flp_command};
 
 use clap::{Arg, ArgAction, Command};
 use std::alloc::{AllocError, Global};
@@ -26,11 +26,20 @@ fn verify_command<'a>(alloc: Global) -> Result<Command<'a>, AllocError>
     Command::new(alloc, "verify").arg(required_option(alloc, "workers"))
 }
 
+/// `prep --party K`.
+fn prep_command<'a>(alloc: Global) -> Result<Command<'a>, AllocError>
+    ensures app { IfOk result (λ c. app_of c ≡ prep_command) }
+    ensures local { IfOk result (λ c. (fields_of c).has_globals ≡ false) }
+{
+    Command::new(alloc, "prep").arg(required_option(alloc, "party"))
+}
+
 /// The program, with a subcommand for each command.
 pub fn flp_command<'a>(alloc: Global) -> Result<Command<'a>, AllocError>
     ensures app { IfOk result (λ c. app_of c ≡ flp_command) }
 {
     Command::new(alloc, "flp")
         .subcommand(verify_command(alloc)?)?
-        .subcommand(Command::new(alloc, "lengths"))
+        .subcommand(Command::new(alloc, "lengths"))?
+        .subcommand(prep_command(alloc)?)
 }

@@ -1,7 +1,7 @@
 //! Jobs, and the one that the words name.
 ghost use Rattle.std.specs.Prelude.{◌≡◌, ◌≢◌, IfOk, map, option_map, None};
 ghost use Rattle.clap.specs.Words.{first_of, found_of, kind_of, rows_of, subcommand_rows_of};
-ghost use Rattle.flp_words.specs.Job.{job_in, job_at, job_named, number_of, verify_job};
+ghost use Rattle.flp_words.specs.Job.{job_in, job_at, job_named, number_of, verify_job, prep_job};
 
 use crate::commands::flp_command;
 use crate::number::number_in;
@@ -16,6 +16,8 @@ pub enum Job {
     Verify(u32),
     /// Say the lengths of a circuit.
     Lengths,
+    /// Make the verifiers of the share of this party, from 0 to 15.
+    Prep(u32),
 }
 
 /// The text that an option has.
@@ -39,6 +41,13 @@ fn verify_job(matches: &ArgMatches<'_>) -> Option<Job>
     Some(Job::Verify(number_of(matches, "workers", 1, 16)?))
 }
 
+/// `prep`, with the number of its party.
+fn prep_job(matches: &ArgMatches<'_>) -> Option<Job>
+    ensures { result ≡ prep_job (rows_of (found_of matches.now)) }
+{
+    Some(Job::Prep(number_of(matches, "party", 0, 15)?))
+}
+
 /// The job of a command's name and its matches.
 fn job_named(name: &str, matches: &ArgMatches<'_>) -> Option<Job>
     ensures { result ≡ job_named name.now (rows_of (found_of matches.now)) }
@@ -46,6 +55,7 @@ fn job_named(name: &str, matches: &ArgMatches<'_>) -> Option<Job>
     match name {
         "verify" => verify_job(matches),
         "lengths" => Some(Job::Lengths),
+        "prep" => prep_job(matches),
         _ => None,
     }
 }

@@ -3,7 +3,7 @@ use crate::{Job, Memory, job_of};
 
 #[test]
 fn jobs_of_words(rt: HostRuntime) -> Result<(), Memory> {
-    let rows: [(&[&str], Option<Job>); 26] = [
+    let rows: [(&[&str], Option<Job>); 29] = [
         (&[], None),
         (&["flp"], None),
         (&["flp", "verify"], None),
@@ -26,6 +26,9 @@ fn jobs_of_words(rt: HostRuntime) -> Result<(), Memory> {
         (&["flp", "verify", "--workers", "1", "2"], None),
         (&["flp", "verify", "--min", "1", "--workers", "1"], None),
         (&["flp", "lengths"], Some(Job::Lengths)),
+        (&["flp", "prep"], None),
+        (&["flp", "prep", "--party", "0"], Some(Job::Prep(0))),
+        (&["flp", "prep", "--party=16"], None),
         (&["any", "lengths"], Some(Job::Lengths)),
         (&["flp", "lengths", "x"], None),
         (&["flp", "help"], None),

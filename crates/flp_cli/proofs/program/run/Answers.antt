@@ -1,4 +1,4 @@
-use Rattle.flp_cli.proofs.RunLemmas.{verify-unread}
+use Rattle.flp_cli.proofs.RunLemmas.{verify-unread, lines-unread}
 use Rattle.flp_cli.proofs.program.run.Goals as goal
 
 pub returns-in-Ok-Some-Verify-clause-verify : goal.returns-in-Ok-Some-Verify-clause-verify
@@ -7,3 +7,10 @@ returns-in-Ok-Some-Verify-clause-verify g c = λ workers is. c.run_verify.ensure
 -- no memory for the words
 pub returns-clause-verify : goal.returns-clause-verify
 returns-clause-verify g c = λ workers is. verify-unread _ _ _ _ _ _
+
+pub returns-in-Ok-Some-Prep-clause-prep : goal.returns-in-Ok-Some-Prep-clause-prep
+returns-in-Ok-Some-Prep-clause-prep g c = λ party is. c.run_prep.ensures.runs
+
+-- no memory for the words
+pub returns-clause-prep : goal.returns-clause-prep
+returns-clause-prep g c = λ party is. lines-unread _ _ _ _ _ _ _
