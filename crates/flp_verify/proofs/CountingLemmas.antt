@@ -20,7 +20,6 @@ use Rattle.flp_batch.specs.Setting.{Setting}
 use Rattle.flp_verdict.specs.Verdicts.{Judged, judged_after, verdict_after, accepted_in}
 use Rattle.flp_verdict.specs.Judging.{program_of, record_shape_of, old_claims_of, JudgesAlike, Follows}
 use Rattle.flp_verdict.proofs.JudgedLemmas.{judged_more, accepted_in_more}
-use Rattle.flp_verify.specs.declared.totals.Totals.{Totals}
 use Rattle.flp_verify.specs.declared.counting.Counting.{Counting}
 use Rattle.flp_verify.specs.Text.{judged_by}
 use Rattle.flp_verify.specs.Totals as totals

@@ -1,5 +1,5 @@
 -- The shape of an opened batch is one that a worker serves.
-use Rattle.std.proofs.Common.{◌≡◌, ℕ, List, Option, ◌≤◌, arith}
+use Rattle.std.proofs.Common.{ℕ, List, Option, arith}
 use Rattle.flp_worker.specs.Worker as worker
 use Rattle.flp_batch.specs.declared.front.Opened.{Opened}
 use Rattle.flp_batch.specs.Opened.{Opens}

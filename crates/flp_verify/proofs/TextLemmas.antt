@@ -1,5 +1,5 @@
 -- The lines of a walk are those of the verdicts, and what was counted gives the ending.
-use Rattle.std.proofs.Common.{◌≡◌, ℕ, List, [], ◌∷◌, ◌++◌, length, map, refl, sym, ap, ap₂, ◌∙◌}
+use Rattle.std.proofs.Common.{◌≡◌, ℕ, List, [], ◌∷◌, ◌++◌, length, refl, ap, ap₂, ◌∙◌}
 use Rattle.std.proofs.lemmas.List.{length-map}
 use Rattle.flp_batch.specs.Setting.{Setting}
 use Rattle.flp_batch.specs.Lines.{lines_from}
@@ -9,7 +9,7 @@ use Rattle.flp_verdict.specs.Verdicts.{judged_from, accepted_in}
 use Rattle.flp_verdict.specs.Text.{lines_of, ending_with, ending_of}
 use Rattle.flp_verify.specs.declared.counting.Counting.{Counting}
 use Rattle.flp_verify.specs.Text.{judged_by, line_by, lines_by, text_by}
-use Rattle.flp_verify.specs.Counting.{setting_of, accepted_of, sums_of, rows_by, Counts}
+use Rattle.flp_verify.specs.Counting.{setting_of, accepted_of, sums_of, Counts}
 
 lines_from-judged : (by : Setting) (earlier reports : List (List ℕ))
     → lines_from (line_by by) earlier reports ≡ lines_of (judged_from by.circuit by.shape by.claims earlier reports)

@@ -1,5 +1,5 @@
 -- What `verify` keeps over the records that were judged. From what they are judged by up.
-use Rattle.std.specs.Prelude.{◌≡◌, ℕ, List, length, map}
+use Rattle.std.specs.Prelude.{ℕ, List, map}
 use Rattle.flp_meaning.specs.Gadgets.{out_count}
 use Rattle.flp_worker.specs.Verdict.{outs_in}
 use Rattle.flp_batch.specs.Setting.{Setting}

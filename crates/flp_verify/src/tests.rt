@@ -71,8 +71,8 @@ struct Given<'a> {
 /// A batch. Of the old claims the first bytes are given.
 #[derive(Drop)]
 struct Batch<'a> {
-    shares: u32,
-    proofs: u32,
+    shares: u64,
+    proofs: u64,
     text: &'a [u8],
     claims: &'a [u8],
     records: &'a [Given<'a>],
@@ -86,8 +86,9 @@ struct Case<'a> {
     text: &'a [u8],
 }
 
-fn push_number(bytes: &mut Vec<u8>, number: u32) -> Result<(), AllocError> {
-    bytes.extend_from_slice(&number.to_le_bytes())?;
+fn push_number(bytes: &mut Vec<u8>, number: u64) -> Result<(), AllocError> {
+    let digits = number.to_le_bytes();
+    bytes.extend_from_slice(&digits[..4])?;
     Ok(())
 }
 
@@ -111,7 +112,7 @@ fn push_ones(bytes: &mut Vec<u8>, count: usize) -> Result<(), AllocError> {
     Ok(())
 }
 
-fn push_record(bytes: &mut Vec<u8>, shares: u32, given: &Given) -> Result<(), AllocError> {
+fn push_record(bytes: &mut Vec<u8>, shares: u64, given: &Given) -> Result<(), AllocError> {
     push_nonce(bytes, given.nonce)?;
     push_words(bytes, given.first)?;
     for _ in 1..shares {
@@ -121,12 +122,12 @@ fn push_record(bytes: &mut Vec<u8>, shares: u32, given: &Given) -> Result<(), Al
 }
 
 /// The file of a batch, whose head says that there are so many reports.
-fn file(alloc: Global, batch: &Batch, reports: u32) -> Result<Vec<u8>, AllocError> {
+fn file(alloc: Global, batch: &Batch, reports: u64) -> Result<Vec<u8>, AllocError> {
     let mut bytes = b"FLPBATCH\x01\0\0\0".to_vec(alloc)?;
     push_number(&mut bytes, batch.shares)?;
     push_number(&mut bytes, batch.proofs)?;
-    push_number(&mut bytes, batch.text.len() as u32)?;
-    push_number(&mut bytes, batch.claims.len() as u32)?;
+    push_number(&mut bytes, batch.text.len() as u64)?;
+    push_number(&mut bytes, batch.claims.len() as u64)?;
     push_number(&mut bytes, reports)?;
     bytes.extend_from_slice(batch.text)?;
     for claim in batch.claims {
@@ -261,7 +262,7 @@ fn texts_of_batches(rt: HostRuntime) -> Result<(), Fail> {
         },
     ];
     for case in &cases {
-        let bytes = file(rt.alloc(), &case.batch, case.batch.records.len() as u32)?;
+        let bytes = file(rt.alloc(), &case.batch, case.batch.records.len() as u64)?;
         let (result, output) = answer(rt.alloc(), bytes)?;
         assert_eq!(rt; result, Ok(()), "{}", case.name);
         assert_eq!(rt; output.taken(), case.text, "{}", case.name);

@@ -1,7 +1,6 @@
-use Rattle.std.proofs.Common.{ℕ, List, Option, None, inl, inr, ⊎_elim}
+use Rattle.std.proofs.Common.{None, inl, inr, ⊎_elim}
 use Rattle.std.proofs.KnownBytes.{Keeps-refl}
 use Rattle.flp_batch.specs.Opened as opened
-use Rattle.flp_batch.specs.Fault.{IfFile}
 use Rattle.flp_batch.proofs.OutcomeLemmas.{OnOk-map, OnErr-always}
 use Rattle.flp_batch.proofs.ReaderLemmas.{ConsumesAtMost-none}
 use Rattle.flp_batch.proofs.BatchLemmas.{TakesFew-behind}
