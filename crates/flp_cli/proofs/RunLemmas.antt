@@ -259,6 +259,12 @@ lines-unread party lines left taken reads writes errors =
     lines-memory party lines (stream left left reads reads) (stream taken taken writes writes) errors
     (record { bytes = []; read = Consumes-nil left; written = inl (Keeps-refl taken) }) (inl (takes-none (front_size party) left))
 
+-- the lines of a party that has another name
+pub lines-for : (party other : ℕ) (lines : ℕ → Setting → List (List ℕ) → List ℕ) (input output errors : Stream) (status : ℕ) → party ≡ other
+    → RunsLines (Some party) (lines party) input output errors status → RunsLines (Some other) (lines other) input output errors status
+lines-for party other lines input output errors status same runs =
+    subst (λ (n : ℕ). RunsLines (Some n) (lines n) input output errors status) same runs
+
 -- ---- `lengths`
 
 -- the text is the front of the bytes that were left

@@ -1,4 +1,6 @@
-use Rattle.flp_cli.proofs.RunLemmas.{verify-unread, lines-unread}
+use Rattle.std.proofs.Common.{◌≡◌, ◌∙◌}
+use Rattle.flp_prep.specs.Text.{lines_by}
+use Rattle.flp_cli.proofs.RunLemmas.{verify-unread, lines-for, lines-unread}
 use Rattle.flp_cli.proofs.program.run.Goals as goal
 
 pub returns-in-Ok-Some-Verify-clause-verify : goal.returns-in-Ok-Some-Verify-clause-verify
@@ -9,7 +11,9 @@ pub returns-clause-verify : goal.returns-clause-verify
 returns-clause-verify g c = λ workers is. verify-unread _ _ _ _ _ _
 
 pub returns-in-Ok-Some-Prep-clause-prep : goal.returns-in-Ok-Some-Prep-clause-prep
-returns-in-Ok-Some-Prep-clause-prep g c = λ party is. c.run_prep.ensures.runs
+returns-in-Ok-Some-Prep-clause-prep g c = λ party is.
+    let same : c.in-Ok-Some-Prep.party ≡ party = cc (c.in-Ok-Some-Prep.ensures ∙ is) in
+    lines-for c.in-Ok-Some-Prep.party party lines_by _ _ _ _ same c.run_prep.ensures.runs
 
 -- no memory for the words
 pub returns-clause-prep : goal.returns-clause-prep
