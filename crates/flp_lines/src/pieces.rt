@@ -6,7 +6,10 @@ ghost use Rattle.flp_lines.specs.Circuit.{named, numbered};
 
 use flp_io::{Failed, Sink, put};
 
-/// Writes words and then a number in decimal digits.
+/// Writes words and then a number in decimal digits. It takes no memory.
+///
+/// # Errors
+/// The sink failed.
 #[tactic(auto, using(flp_io::proofs::WriteLemmas::writes_join))]
 pub fn put_numbered<E: Sink>(errors: &mut E, words: &[u8], number: u64) -> Result<(), Failed>
     ensures bytes { OnOk result (Appends (E.taken errors.old) (E.taken errors.new) (numbered words.now number)) }
@@ -17,7 +20,10 @@ pub fn put_numbered<E: Sink>(errors: &mut E, words: &[u8], number: u64) -> Resul
     put(errors, digits.format(number).as_bytes())
 }
 
-/// Writes words, then a name, a space and a number in decimal digits.
+/// Writes words, then a name, a space and a number in decimal digits. It takes no memory.
+///
+/// # Errors
+/// The sink failed.
 #[tactic(auto, using(flp_io::proofs::WriteLemmas::writes_join))]
 pub fn put_named<E: Sink>(
     errors: &mut E,
