@@ -27,11 +27,6 @@ use flp_query::Scratch;
 use std::alloc::{AllocError, Global};
 use std::time::Instant;
 
-const TEXT: &[u8] = b"meas 256; joint 16; gadget g = psum 16 mul;
-check sum c in 0..16 ( g( each j in 0..16 ( joint[c]^(j + 1) * meas?[c * 16 + j], meas?[c * 16 + j] - 1 ) ) );
-check sum i in 0..256 ( meas[i] ) - 1;
-each i in 0..256 ( out meas[i]; )";
-
 /// How many records are proved.
 const PROOFS: u64 = 20_000;
 
@@ -39,7 +34,7 @@ const PROOFS: u64 = 20_000;
 const RECORDS: u64 = 10_000;
 
 fn main(rt: HostRuntime) -> anyhow::Result<()> {
-    let plan = plan_of(rt.alloc()).context("refused")?;
+    let plan = plan_of(rt.alloc(), text()).context("refused")?;
     let start = Instant::now(&rt)?;
     let word = proofs(rt.alloc(), &plan)?;
     let time = start.elapsed(&rt)?.as_millis().max(1);
@@ -52,9 +47,17 @@ fn main(rt: HostRuntime) -> anyhow::Result<()> {
     Ok(())
 }
 
-/// The plan of the circuit.
-fn plan_of(alloc: Global) -> Option<Plan> {
-    let Circuit::Body(body) = parse(alloc, TEXT).ok()? else {
+/// The circuit.
+fn text() -> &'static [u8] {
+    b"meas 256; joint 16; gadget g = psum 16 mul;
+check sum c in 0..16 ( g( each j in 0..16 ( joint[c]^(j + 1) * meas?[c * 16 + j], meas?[c * 16 + j] - 1 ) ) );
+check sum i in 0..256 ( meas[i] ) - 1;
+each i in 0..256 ( out meas[i]; )"
+}
+
+/// The plan of a circuit.
+fn plan_of(alloc: Global, text: &[u8]) -> Option<Plan> {
+    let Circuit::Body(body) = parse(alloc, text).ok()? else {
         return None;
     };
     compile(alloc, check(alloc, body).ok()?).ok()

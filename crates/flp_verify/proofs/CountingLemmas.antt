@@ -1,7 +1,7 @@
 -- One record more: the rows that are summed up, and what is kept.
-use Rattle.std.proofs.Common.{◌≡◌, ℕ, ◌+◌, ◌<◌, List, [], ◌∷◌, ◌++◌, length, map, get_or, Bool, true, false, refl, sym, ap, subst, ◌∙◌, arith, length-append}
+use Rattle.std.proofs.Common.{◌≡◌, ℕ, ◌+◌, ◌%◌, ◌<◌, List, [], ◌∷◌, ◌++◌, length, map, get_or, replicate, Bool, true, false, refl, sym, ap, subst, ◌∙◌, arith, length-append}
 use Rattle.std.specs.Prelude.{if◌then◌else◌}
-use Rattle.std.proofs.lemmas.List.{map-append}
+use Rattle.std.proofs.lemmas.List.{append-nil, map-append, length-replicate, get_or-replicate}
 use Rattle.flp_field.specs.Word.{modulus, word_sum}
 use Rattle.flp_field.specs.Sums.{sum_of_lists}
 use Rattle.flp_field.proofs.ListSums.{column, column-cons, length-sum_of_lists, get_or-sum_of_lists, sum_of_lists_from}
@@ -12,12 +12,13 @@ use Rattle.flp_meaning.proofs.Fixed.{outs_are_fixed}
 use Rattle.flp_report.specs.declared.shape.Shape.{Shape}
 use Rattle.flp_report.specs.Record.{words_in}
 use Rattle.flp_policy.specs.declared.verdict.Verdict.{Verdict}
+use Rattle.flp_policy.specs.declared.verdict.Verdict.TheVariants.{Accepted, Rejected, InDomain, Malformed, Replayed}
 use Rattle.flp_policy.specs.Verdicts.{is_accepted}
 use Rattle.flp_worker.specs.Parts.{unshared_encoding}
 use Rattle.flp_worker.specs.Verdict.{outs_in}
 use Rattle.flp_batch.specs.Setting.{Setting}
 use Rattle.flp_verdict.specs.Verdicts.{Judged, judged_after, verdict_after, accepted_in}
-use Rattle.flp_verdict.specs.Judging.{program_of, Follows}
+use Rattle.flp_verdict.specs.Judging.{program_of, record_shape_of, old_claims_of, JudgesAlike, Follows}
 use Rattle.flp_verdict.proofs.JudgedLemmas.{judged_more, accepted_in_more}
 use Rattle.flp_verify.specs.declared.totals.Totals.{Totals}
 use Rattle.flp_verify.specs.declared.counting.Counting.{Counting}
@@ -64,6 +65,19 @@ SumUp-more outs rows row old new up counted size each = record {
   sums = sum-last outs rows row (totals.sums_in old) (totals.sums_in new) up.sums size each;
 }
 
+-- no row: as many sums as there are words, each 0
+pub SumUp-none : (outs : ℕ) (new : Totals) → totals.accepted_in new ≡ 0 → totals.sums_in new ≡ replicate outs 0 → totals.SumUp outs [] new
+SumUp-none outs new none zeros = record {
+  accepted = none;
+  sums =
+      zeros
+      ∙ sum_of_lists_from outs (replicate outs 0) [] (length-replicate outs 0)
+      (λ (k : ℕ) (below : k < outs).
+      let zero : get_or (replicate outs 0) k 0 ≡ 0 = get_or-replicate outs k 0 0 below in
+      let column : column [] k % modulus ≡ 0 = refl in
+      zero ∙ sym column);
+}
+
 -- ---- records
 
 pub length-outs_in : (program : Program) (shape : Shape) (report : List ℕ) → length (outs_in program shape report) ≡ out_count program
@@ -86,8 +100,17 @@ rows-more by earlier report =
     ∙ (map-append outs (accepted_in (judged_by by earlier)) more
     ∙ ap (λ (l : List (List ℕ)). rows_by by earlier ++ l) (rows-by by report (is_accepted last.verdict))))
 
+setting-alike : (old new : Counting) → JudgesAlike old.judging new.judging → setting_of new ≡ setting_of old
+setting-alike old new alike =
+    let F : Program → Shape → List (List ℕ) → Setting = λ p s l. record { circuit = p; shape = s; claims = l } in
+    let a = old.judging in
+    let b = new.judging in
+    ap (λ (p : Program). F p (record_shape_of b) (old_claims_of b)) alike.program
+    ∙ (ap (λ (s : Shape). F (program_of a) s (old_claims_of b)) alike.shape
+    ∙ ap (λ (l : List (List ℕ)). F (program_of a) (record_shape_of a) l) alike.claims)
+
 -- what is kept follows one record more
-pub Counts-more : (old new : Counting) (earlier : List (List ℕ)) (report : List ℕ) (verdict : Verdict) → setting_of new ≡ setting_of old
+Counts-more : (old new : Counting) (earlier : List (List ℕ)) (report : List ℕ) (verdict : Verdict) → setting_of new ≡ setting_of old
     → Follows new.judging (earlier ++ report ∷ [])
     → verdict ≡ verdict_after (setting_of old).circuit (setting_of old).shape (setting_of old).claims earlier report
     → totals.SumUp (out_count (setting_of old).circuit)
@@ -103,3 +126,35 @@ Counts-more old new earlier report verdict same follows is up = record {
       let R : Setting → Type 0 = λ s. totals.SumUp (out_count s.circuit) (rows_by s (earlier ++ report ∷ [])) new.totals in
       subst R (sym same) (subst Q (sym (rows-more by earlier report)) (subst P is up));
 }
+
+-- an accepted record adds its row, and every other none
+pub Counts-accepted : (old new : Counting) (earlier : List (List ℕ)) (report row : List ℕ) (verdict : Verdict) → JudgesAlike old.judging new.judging
+    → Follows new.judging (earlier ++ report ∷ [])
+    → verdict ≡ verdict_after (setting_of old).circuit (setting_of old).shape (setting_of old).claims earlier report
+    → is_accepted verdict ≡ true → row ≡ outs_in (setting_of old).circuit (setting_of old).shape report
+    → totals.SumUp (out_count (setting_of old).circuit) (rows_by (setting_of old) earlier ++ row ∷ []) new.totals
+    → Counts new (earlier ++ report ∷ [])
+Counts-accepted old new earlier report row verdict alike follows is accepted row_is up =
+    let by = setting_of old in
+    let P : Bool → Type 0 = λ b. totals.SumUp (out_count by.circuit) (rows_by by earlier ++ (if b then outs_in by.circuit by.shape report ∷ [] else [])) new.totals in
+    let Q : List ℕ → Type 0 = λ l. totals.SumUp (out_count by.circuit) (rows_by by earlier ++ l ∷ []) new.totals in
+    Counts-more old new earlier report verdict (setting-alike old new alike) follows is (subst P (sym accepted) (subst Q row_is up))
+
+pub Counts-other : (old new : Counting) (earlier : List (List ℕ)) (report : List ℕ) (verdict : Verdict) → JudgesAlike old.judging new.judging
+    → Follows new.judging (earlier ++ report ∷ [])
+    → verdict ≡ verdict_after (setting_of old).circuit (setting_of old).shape (setting_of old).claims earlier report
+    → is_accepted verdict ≡ false → totals.SumUp (out_count (setting_of old).circuit) (rows_by (setting_of old) earlier) new.totals
+    → Counts new (earlier ++ report ∷ [])
+Counts-other old new earlier report verdict alike follows is other up =
+    let by = setting_of old in
+    let P : Bool → Type 0 = λ b. totals.SumUp (out_count by.circuit) (rows_by by earlier ++ (if b then outs_in by.circuit by.shape report ∷ [] else [])) new.totals in
+    let Q : List (List ℕ) → Type 0 = λ l. totals.SumUp (out_count by.circuit) l new.totals in
+    Counts-more old new earlier report verdict (setting-alike old new alike) follows is (subst P (sym other) (subst Q (sym (append-nil (rows_by by earlier))) up))
+
+-- the one verdict that counts
+pub accepted-is : (verdict : Verdict) → is_accepted verdict ≡ true → verdict ≡ Accepted
+accepted-is Accepted is = refl
+accepted-is Rejected is = cc
+accepted-is (InDomain proof gadget) is = cc
+accepted-is (Malformed word) is = cc
+accepted-is Replayed is = cc

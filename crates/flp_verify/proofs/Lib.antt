@@ -6,3 +6,5 @@ pub mod CountingLemmas
 pub mod ShapeLemmas
 -- loaded circuits
 pub mod LoadedLemmas
+-- from what holds at one outcome of a call to what follows there
+pub mod OutcomeLemmas

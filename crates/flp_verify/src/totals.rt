@@ -1,5 +1,6 @@
 //! How many records are accepted, and the sum of their outs.
-ghost use Rattle.std.specs.Prelude.{◌≡◌, ◌+◌, ◌^◌, ◌<◌, List, ℕ, [], ◌∷◌, ◌++◌, length, IfOk};
+ghost use Rattle.std.specs.Prelude.{◌≡◌, ◌+◌, ◌^◌, ◌<◌, List, ℕ, [], ◌∷◌, ◌++◌, length, slice_index, EachIndex, IfOk};
+ghost use Rattle.flp_field.specs.Word.{word_sum};
 ghost use Rattle.flp_verify.specs.Totals.{accepted_in, sums_in, SumUp};
 
 use crate::Memory;
@@ -11,6 +12,16 @@ use std::alloc::Global;
 pub struct Totals {
     accepted: u64,
     sums: Vec<Fe>,
+}
+
+/// Adds each word of a row to the sum with the same index.
+fn add_to(row: &[Fe], sums: &mut [Fe])
+    requires { length row.now ≡ length sums.old }
+    ensures { EachIndex sums.old (λ k. slice_index sums.new k ≡ word_sum (slice_index sums.old k) (slice_index row.now k)) }
+{
+    for (k, sum) in sums.iter_mut().enumerate() {
+        *sum = sum.add(row[k]);
+    }
 }
 
 impl Totals {
@@ -32,9 +43,7 @@ impl Totals {
         ensures counted { accepted_in self.new ≡ accepted_in self.old + 1 }
     {
         self.accepted += 1;
-        for (k, sum) in self.sums.iter_mut().enumerate() {
-            *sum = sum.add(row[k]);
-        }
+        add_to(row, self.sums.as_mut_slice());
     }
 
     /// How many records are accepted.
