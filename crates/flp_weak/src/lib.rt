@@ -21,6 +21,3 @@ mod word;
 pub use word::{Weak, weak_word};
 /// Want of memory.
 pub use std::alloc::AllocError as Memory;
-
-#[cfg(test)]
-mod tests;

@@ -19,6 +19,3 @@ mod worker;
 /// Want of memory.
 pub use std::alloc::AllocError as Memory;
 pub use worker::Worker;
-
-#[cfg(test)]
-mod tests;
