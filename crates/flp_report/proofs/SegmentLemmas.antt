@@ -10,18 +10,6 @@ use Rattle.flp_report.specs.Segment.{shape_in, used_in, held_in, record_in, reco
 use Rattle.flp_report.specs.Pieces.{pieces, IsCut}
 use Rattle.flp_report.proofs.PiecesLemmas.{pieces-append, slice_get-pieces, IsCut-pieces}
 
--- a Count report has 120 bytes
-pub bytes_of-count : (s : Shape) → IsCountShape s → bytes_of s ≡ 120
-bytes_of-count s shape = rw (shape.shares, shape.meas, shape.proofs, shape.proof, shape.joint, shape.query) refl
-
--- the one record is all that the segment holds
-pub record_in-only : (s : Segment) → used_in s ≡ 1 → record_in s 0 ≡ held_in s
-record_in-only s used =
-    let size = bytes_of s.shape in
-    let start : 0 * size ≡ 0 = omega arith in
-    let all : size ≡ s.used * size = rw used (omega arith) in
-    ap (λ (n : ℕ). take size (drop n s.bytes.items)) start ∙ ap (λ (n : ℕ). take n s.bytes.items) all
-
 -- a segment holds the shape's bytes for each record
 length-held : (s : Segment) → length (held_in s) ≡ s.used * bytes_of s.shape
 length-held s =
@@ -29,10 +17,6 @@ length-held s =
     let room = mul-le-mul_right size s.in_use in
     let inside : s.used * size ≤ length s.bytes.items = omega (arith, room, s.sized, s.bytes.ok) in
     length-take-le (s.used * size) s.bytes.items inside
-
--- 120 for each Count report
-pub length-held_in : (s : Segment) → IsCountShape (shape_in s) → length (held_in s) ≡ s.used * 120
-length-held_in s shape = length-held s ∙ ap (λ (n : ℕ). s.used * n) (bytes_of-count s.shape shape)
 
 -- what it holds are its records
 pub IsCut-held : (s : Segment) → IsCut (bytes_of s.shape) s.used (held_in s) (records_in s)

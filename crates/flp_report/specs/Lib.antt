@@ -6,8 +6,6 @@ pub mod Batch
 pub mod Words
 pub mod Record
 pub mod Segment
-pub mod CountBatch
-pub mod CountReader
 pub mod Reads
 pub mod Nonces
 pub mod Reader

@@ -1,5 +1,5 @@
 -- How long the parts of a record are, in words and in bytes.
-use Rattle.std.specs.Prelude.{ℕ, ◌+◌, ◌*◌, ◌≡◌}
+use Rattle.std.specs.Prelude.{ℕ, ◌+◌, ◌*◌}
 use Rattle.flp_report.specs.declared.shape.Shape.{Shape}
 
 -- the words of one share's part: its share of the encoding, and then of each proof
@@ -13,12 +13,3 @@ words_of s = s.shares * part_of s + s.proofs * (s.joint + s.query)
 -- the bytes of a record: the nonce, and its words
 abbrev pub bytes_of : Shape → ℕ
 bytes_of s = 16 + 8 * words_of s
-
--- the shape of a Count report in two shares with one proof
-pub record IsCountShape (s : Shape) : Type 0 where
-  pub shares : s.shares ≡ 2
-  pub proofs : s.proofs ≡ 1
-  pub meas : s.meas ≡ 1
-  pub joint : s.joint ≡ 0
-  pub query : s.query ≡ 1
-  pub proof : s.proof ≡ 5

@@ -20,17 +20,9 @@
 //! | read a job file | [`JobReader`]: `head`, `shape`, `jobs`, `end` |
 //! | look at one job | [`Job`], which [`Jobs::job_at`] lends; [`load_numbers`] for its input |
 //! | know what the calls, one after the other, say of a whole file | [`first_faults`], [`record_faults`], [`read_front`], [`read_records`], [`held_parts`], [`record_parts`], [`reads_back`], [`first_job_faults`], [`job_faults`], [`read_jobs`], [`job_parts`] |
-//!
-//! [`CountReader`] reads batches of Count reports alone: two shares, one proof, the text
-//! `use count;` and no old claims. Every other head or text is [`CountFault::NotBuilt`] to it. It
-//! serves until the program verifies every circuit.
 #![tactic(auto)]
 
 mod batch;
-mod count;
-mod count_fault;
-#[cfg(test)]
-mod count_tests;
 mod fault;
 mod head;
 mod header;
@@ -43,6 +35,8 @@ mod laws;
 mod nonces;
 mod read;
 mod record;
+#[cfg(test)]
+mod record_tests;
 mod segment;
 mod shape;
 #[cfg(test)]
@@ -52,8 +46,6 @@ mod write;
 mod write_tests;
 
 pub use batch::BatchReader;
-pub use count::CountReader;
-pub use count_fault::{CountBatchFault, CountFault};
 pub use fault::{BatchFault, ReadFault};
 pub use header::Header;
 pub use job::{Job, Jobs};

@@ -30,16 +30,6 @@ pub struct Shape {
 impl Shape {
     ghost use Rattle.flp_report.specs.Shape.{part_of, words_of, bytes_of};
 
-    /// The shape of a Count report in two shares with one proof.
-    pub const COUNT: Shape = Shape {
-        shares: 2,
-        proofs: 1,
-        meas: 1,
-        joint: 0,
-        query: 1,
-        proof: 5,
-    };
-
     /// The shape with nothing but a nonce, which a reader has before it is given one.
     pub(crate) const NONE: Shape = Shape {
         shares: 0,

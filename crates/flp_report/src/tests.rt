@@ -3,11 +3,31 @@ use crate::BatchFault::{
     ClaimsOrder, Magic, Party, Proofs, Shares, TextLength, TooLarge, Trailing, Truncated, Version,
 };
 use crate::ReadFault::{self, Batch};
-use crate::count_tests::EXAMPLE;
 use crate::{BatchReader, Memory, Segment, Shape};
 use flp_io::{MemorySource, Source};
 use std::alloc::Global;
 use std::test::Fail;
+
+// A batch of one Count report of the measurement 1, whose second share is all ones.
+pub(crate) const EXAMPLE: &[u8] =
+    b"FLPBATCH\x01\0\0\0\x02\0\0\0\x01\0\0\0\x0a\0\0\0\0\0\0\0\x01\0\0\0\
+    use count;\
+    \x00\x01\x02\x03\x04\x05\x06\x07\x08\x09\x0a\x0b\x0c\x0d\x0e\x0f\
+    \0\0\0\0\0\0\0\0\x02\0\0\0\0\0\0\0\x04\0\0\0\0\0\0\0\
+    \x05\0\0\0\0\0\0\0\x06\0\0\0\0\0\0\0\x01\0\0\0\0\0\0\0\
+    \x01\0\0\0\0\0\0\0\x01\0\0\0\0\0\0\0\x01\0\0\0\0\0\0\0\
+    \x01\0\0\0\0\0\0\0\x01\0\0\0\0\0\0\0\x01\0\0\0\0\0\0\0\
+    \x02\0\0\0\0\0\0\0";
+
+// The shape of the example's record.
+pub(crate) const COUNT: Shape = Shape {
+    shares: 2,
+    proofs: 1,
+    meas: 1,
+    joint: 0,
+    query: 1,
+    proof: 5,
+};
 
 // The numbers of old claims and of reports of a file that is read to its end, in records of one
 // measurement and a proof of five words.
@@ -195,7 +215,7 @@ fn claims_are_lent_in_order(rt: HostRuntime) -> Result<(), Fail> {
     let header = reader.head(rt.alloc(), None)?;
     assert_eq!(rt; header.text.as_slice(), b"use count;".as_slice());
     assert!(rt; header.shares == 2 && header.proofs == 1);
-    reader.shape(Shape::COUNT)?;
+    reader.shape(COUNT)?;
     let claims = reader.claims(rt.alloc())?;
     assert!(rt; claims.len() == 2 && !claims.is_empty());
     assert_eq!(rt;
