@@ -3,10 +3,10 @@
 # own, proves it and runs it. Give RT to name another command than rt.
 set -eu
 . "$(dirname "$0")/room.sh"
-crates="flp_field flp_poly flp_list flp_ntt flp_gadget flp_syntax flp_check flp_lang flp_meaning flp_forms flp_emit flp_plan flp_prove flp_query"
+crates="flp_field flp_poly flp_list flp_ntt flp_gadget flp_syntax flp_check flp_lang flp_circuits flp_meaning flp_forms flp_emit flp_plan flp_load flp_prove flp_query"
 furnish proofs $crates
 for crate in $crates; do grep "^$crate:" "$top/crates.txt"; done >"$room/crates.txt"
-echo "bench_proofs: flp_field flp_plan flp_lang flp_check flp_prove flp_query anyhow" >>"$room/crates.txt"
+echo "bench_proofs: flp_field flp_list flp_plan flp_load flp_prove flp_query" >>"$room/crates.txt"
 cat >"$room/crates/bench_proofs/src/main.rt" <<'PROGRAM'
 //! Times proofs and queries of a histogram of 256 words that are checked in chunks of 16: a gadget with 32
 //! inputs and 16 calls, so a domain of 32 points. Each line is the work, the time in milliseconds, how many
@@ -17,15 +17,17 @@ ghost use Rattle.flp_plan.specs.Counted.{lengths_of};
 ghost use Rattle.flp_prove.specs.Room.{Serves};
 ghost use Rattle.flp_query.specs.Sizes.{sizes_of};
 
-use anyhow::Context;
-use flp_check::check;
 use flp_field::Fe;
-use flp_lang::{Circuit, parse};
-use flp_plan::{Plan, compile};
+use flp_load::load_circuit;
+use flp_plan::Plan;
 use flp_prove::Prover;
 use flp_query::Scratch;
 use std::alloc::{AllocError, Global};
+use std::io;
 use std::time::Instant;
+
+/// The circuit.
+const TEXT: &[u8] = b"use histogram length=256 chunk=16;";
 
 /// How many records are proved.
 const PROOFS: u64 = 20_000;
@@ -33,34 +35,34 @@ const PROOFS: u64 = 20_000;
 /// How many records of two shares are queried.
 const RECORDS: u64 = 10_000;
 
-fn main(rt: HostRuntime) -> anyhow::Result<()> {
-    let plan = plan_of(rt.alloc(), text()).context("refused")?;
-    let start = Instant::now(&rt)?;
-    let word = proofs(rt.alloc(), &plan)?;
-    let time = start.elapsed(&rt)?.as_millis().max(1);
-    println!(rt; "{PROOFS} proofs: {time} ms, {} records a second, {}", PROOFS as u128 * 1000 / time, word.value())?;
-
-    let start = Instant::now(&rt)?;
-    let word = queries(rt.alloc(), &plan)?;
-    let time = start.elapsed(&rt)?.as_millis().max(1);
-    println!(rt; "{RECORDS} times the queries of two shares: {time} ms, {} records a second, {}", RECORDS as u128 * 1000 / time, word.value())?;
-    Ok(())
-}
-
-/// The circuit.
-fn text() -> &'static [u8] {
-    b"meas 256; joint 16; gadget g = psum 16 mul;
-check sum c in 0..16 ( g( each j in 0..16 ( joint[c]^(j + 1) * meas?[c * 16 + j], meas?[c * 16 + j] - 1 ) ) );
-check sum i in 0..256 ( meas[i] ) - 1;
-each i in 0..256 ( out meas[i]; )"
-}
-
-/// The plan of a circuit.
-fn plan_of(alloc: Global, text: &[u8]) -> Option<Plan> {
-    let Circuit::Body(body) = parse(alloc, text).ok()? else {
-        return None;
+fn main(rt: HostRuntime) -> io::Result<()> {
+    let Ok(loaded) = load_circuit(rt.alloc(), TEXT) else {
+        return Err(io::Error::other("the circuit is refused"));
     };
-    compile(alloc, check(alloc, body).ok()?).ok()
+    time_proofs(&rt, &loaded.plan)?;
+    time_queries(&rt, &loaded.plan)
+}
+
+/// Times proofs.
+fn time_proofs(rt: &HostRuntime, plan: &Plan) -> io::Result<()> {
+    let start = Instant::now(rt)?;
+    let word = proofs(rt.alloc(), plan)?;
+    let time = start.elapsed(rt)?.as_millis();
+    print(rt, "proofs", PROOFS, time, word)
+}
+
+/// Times queries.
+fn time_queries(rt: &HostRuntime, plan: &Plan) -> io::Result<()> {
+    let start = Instant::now(rt)?;
+    let word = queries(rt.alloc(), plan)?;
+    let time = start.elapsed(rt)?.as_millis();
+    print(rt, "records, two queries each", RECORDS, time, word)
+}
+
+/// Prints how many of what took so many milliseconds.
+fn print(rt: &HostRuntime, what: &str, count: u64, time: u128, word: Fe) -> io::Result<()> {
+    let second = u128::from(count) * 1000 / time.max(1);
+    println!(*rt; "{count} {what}: {time} ms, {second} a second, {}", word.value())
 }
 
 /// Proves again and again, each time an encoding whose words are the last word of the proof before.

@@ -1,6 +1,6 @@
 -- From what a command did, and its fault, to what its run does.
-use Rattle.std.proofs.Common.{◌≡◌, ℕ, ◌≤◌, Bool, Option, None, Some, Result, Err, List, [], refl, sym, ap, subst, inl, inr, ◌⊎◌, ⊎_elim, arith, rules, take}
-use Rattle.std.specs.Prelude.{IfSome, IsTrue}
+use Rattle.std.proofs.Common.{◌≡◌, ℕ, ◌≤◌, Bool, Option, None, Some, Result, Ok, Err, List, [], refl, sym, ap, subst, inl, inr, ◌⊎◌, ⊎_elim, arith, rules, take}
+use Rattle.std.specs.Prelude.{IfSome, IfErr, OnOk, OnErr, MatchResult, IsTrue}
 use Rattle.std.specs.Io.KnownBytes.{Appends, Keeps}
 use Rattle.std.proofs.KnownBytes.{Consumes-nil, Keeps-refl}
 use Rattle.flp_syntax.specs.declared.syntax.Params.{Params}
@@ -58,7 +58,7 @@ abbrev pub at-write : {A B T : Type 0} (fault : EngineFault) → A ⊎ ((◌≡�
 at-write fault (inl early) = inl early
 at-write fault (inr late) = let same : fault ≡ batch.Write = cc late.0 in inr (same, late.1)
 
-pub verify-done : BatchNeverBoth → (would : Counts → List Bool) (input output errors : Stream) → WritesText None text_by input.old input.new output.old output.new
+verify-done : BatchNeverBoth → (would : Counts → List Bool) (input output errors : Stream) → WritesText None text_by input.old input.new output.old output.new
     → TakesFewOfBatch None input.old input.new → RunsVerify would input output errors 0
 verify-done never would input output errors done few = record {
   known = search rules;
@@ -139,7 +139,7 @@ either-of : {A B : Type 0} (fault : EngineFault) → A ⊎ ((fault ≡ batch.Wri
 either-of fault (inl early) = inl early
 either-of fault (inr late) = inr late.1
 
-pub verify-stopped : BatchNeverBoth → BatchOneFault → (would : Counts → List Bool) (input output errors : Stream) (fault : EngineFault)
+verify-stopped : BatchNeverBoth → BatchOneFault → (would : Counts → List Bool) (input output errors : Stream) (fault : EngineFault)
     → StopsEarly None lines_by input.old input.new output.old output.new ⊎ ((fault ≡ batch.Write) × StopsInText None text_by input.old input.new output.old output.new)
     → IfFile fault (λ f. IfSome input.old (λ bytes. IsFault None bytes f)) → TakesFewOfBatch None input.old input.new
     → (fault ≡ batch.Read → Failed input) → (fault ≡ batch.Write → Failed output)
@@ -154,6 +154,21 @@ verify-stopped never one would input output errors (batch.Batch why) stopped is_
     verify-refused never one would input output errors (batch.Batch why) (file-status why) (early-of (batch.Batch why) (λ is. cc) stopped) is_fault few line
 verify-stopped never one would input output errors (batch.Circuit why) stopped is_fault few failed_in failed_out line =
     verify-refused never one would input output errors (batch.Circuit why) (inr refl) (early-of (batch.Circuit why) (λ is. cc) stopped) is_fault few line
+
+-- whichever way it ended
+pub verify-ended : {T : Type 0} → BatchNeverBoth → BatchOneFault → (would : Counts → List Bool) (input output errors : Stream) (ended : Result T EngineFault) (status : ℕ)
+    → OnOk ended (WritesText None text_by input.old input.new output.old output.new)
+    → OnErr ended (StopsEarly None lines_by input.old input.new output.old output.new ⊎ ((ended ≡ Err batch.Write) × StopsInText None text_by input.old input.new output.old output.new))
+    → IfErr ended (λ fault. IfFile fault (λ f. IfSome input.old (λ bytes. IsFault None bytes f))) → TakesFewOfBatch None input.old input.new
+    → (ended ≡ Err batch.Read → Failed input) → (ended ≡ Err batch.Write → Failed output)
+    → MatchResult ended (λ _. status ≡ 0) (λ fault. status ≡ batch_status fault)
+    → (IsQuiet errors → MatchResult ended (λ _. Keeps errors.old errors.new) (λ fault. Appends errors.old errors.new (engine_line fault)))
+    → RunsVerify would input output errors status
+verify-ended never one would input output errors (Ok done) status written stopped is_fault few failed_in failed_out is line =
+    rw is (verify-done never would input output errors written few)
+verify-ended never one would input output errors (Err fault) status written stopped is_fault few failed_in failed_out is line =
+    rw is (verify-stopped never one would input output errors fault (at-write fault stopped) is_fault few
+    (λ same. failed_in (ap Err same)) (λ same. failed_out (ap Err same)) line)
 
 -- nothing was taken
 takes-none : (limit : List ℕ → ℕ) (left : Option (List ℕ)) → ConsumesWithin limit left left
@@ -222,7 +237,7 @@ lines-refused never one party lines input output errors fault six_seven early is
       inr (ap batch_status (one party bytes fault other (told input.old bytes (λ b. IsFault party b fault) is is_fault) refused));
 }
 
-pub lines-done : BatchNeverBoth → (party : Option ℕ) (lines : Setting → List (List ℕ) → List ℕ) (input output errors : Stream) → WritesText party lines input.old input.new output.old output.new
+lines-done : BatchNeverBoth → (party : Option ℕ) (lines : Setting → List (List ℕ) → List ℕ) (input output errors : Stream) → WritesText party lines input.old input.new output.old output.new
     → TakesFewOfBatch party input.old input.new → RunsLines party lines input output errors 0
 lines-done never party lines input output errors done few = record {
   known = search rules;
@@ -236,7 +251,7 @@ lines-done never party lines input output errors done few = record {
       absurd (never party done.bytes done.params done.setting fault done.is_batch (subst (λ (b : List ℕ). IsFault party b fault) all refused));
 }
 
-pub lines-stopped : BatchNeverBoth → BatchOneFault → (party : Option ℕ) (lines : Setting → List (List ℕ) → List ℕ) (input output errors : Stream) (fault : EngineFault)
+lines-stopped : BatchNeverBoth → BatchOneFault → (party : Option ℕ) (lines : Setting → List (List ℕ) → List ℕ) (input output errors : Stream) (fault : EngineFault)
     → StopsEarly party lines input.old input.new output.old output.new
     → IfFile fault (λ f. IfSome input.old (λ bytes. IsFault party bytes f)) → TakesFewOfBatch party input.old input.new
     → (fault ≡ batch.Read → Failed input) → (fault ≡ batch.Write → Failed output)
@@ -251,6 +266,21 @@ lines-stopped never one party lines input output errors (batch.Batch why) early 
     lines-refused never one party lines input output errors (batch.Batch why) (file-status why) early is_fault few line
 lines-stopped never one party lines input output errors (batch.Circuit why) early is_fault few failed_in failed_out line =
     lines-refused never one party lines input output errors (batch.Circuit why) (inr refl) early is_fault few line
+
+-- whichever way it ended
+pub lines-ended : {T : Type 0} → BatchNeverBoth → BatchOneFault → (party : Option ℕ) (lines : Setting → List (List ℕ) → List ℕ) (input output errors : Stream) (ended : Result T EngineFault) (status : ℕ)
+    → OnOk ended (WritesText party lines input.old input.new output.old output.new)
+    → OnErr ended (StopsEarly party lines input.old input.new output.old output.new)
+    → IfErr ended (λ fault. IfFile fault (λ f. IfSome input.old (λ bytes. IsFault party bytes f))) → TakesFewOfBatch party input.old input.new
+    → (ended ≡ Err batch.Read → Failed input) → (ended ≡ Err batch.Write → Failed output)
+    → MatchResult ended (λ _. status ≡ 0) (λ fault. status ≡ batch_status fault)
+    → (IsQuiet errors → MatchResult ended (λ _. Keeps errors.old errors.new) (λ fault. Appends errors.old errors.new (engine_line fault)))
+    → RunsLines party lines input output errors status
+lines-ended never one party lines input output errors (Ok done) status written stopped is_fault few failed_in failed_out is line =
+    rw is (lines-done never party lines input output errors written few)
+lines-ended never one party lines input output errors (Err fault) status written stopped is_fault few failed_in failed_out is line =
+    rw is (lines-stopped never one party lines input output errors fault stopped is_fault few
+    (λ same. failed_in (ap Err same)) (λ same. failed_out (ap Err same)) line)
 
 -- no memory for the words: nothing was read or written
 pub lines-unread : (party : Option ℕ) (lines : Setting → List (List ℕ) → List ℕ) (left taken : Option (List ℕ)) (reads writes : ℕ) (errors : Stream)

@@ -8,6 +8,7 @@ ghost use Rattle.flp_batch.specs.Fault.{IfFile};
 ghost use Rattle.flp_batch.specs.File.{IsFault};
 ghost use Rattle.flp_batch.specs.Batch.{TakesFew as TakesFewOfBatch};
 ghost use Rattle.flp_batch.specs.Reply.{WritesText, StopsInText, StopsEarly};
+ghost use Rattle.flp_explain.specs.Text.{text_by as explained_by};
 ghost use Rattle.flp_prep.specs.Text.{lines_by as prepared_by};
 ghost use Rattle.flp_verify.specs.Text.{lines_by, text_by};
 ghost use Rattle.flp_lengths.specs.Reading.{TakesFew};
@@ -17,39 +18,35 @@ ghost use Rattle.flp_cli.specs.Stream.{stream};
 ghost use Rattle.flp_cli.specs.Runs.{RunsVerify, RunsLines, RunsLengths};
 
 use crate::answers::{batch_status, lengths_status, put_engine_fault, put_lengths_fault};
+use flp_explain::explain;
 use flp_io::{Sink, Source};
 use flp_lengths::{LengthsFault, lengths};
 use flp_prep::prep;
 use flp_verify::{EngineFault, verify};
 use std::alloc::Global;
 
-/// Does `verify`, and says on `errors` why where it fails.
-fn do_verify<S: Source, K: Sink, E: Sink>(
-    alloc: Global,
-    input: &mut S,
-    output: &mut K,
-    errors: &mut E,
-) -> Result<(), EngineFault>
-    ensures done { OnOk result (WritesText None text_by (S.left input.old) (S.left input.new) (K.taken output.old) (K.taken output.new)) }
-    ensures stopped { OnErr result (StopsEarly None lines_by (S.left input.old) (S.left input.new) (K.taken output.old) (K.taken output.new)
-        ⊎ ((result ≡ Err EngineFault.Write) × StopsInText None text_by (S.left input.old) (S.left input.new) (K.taken output.old) (K.taken output.new))) }
-    ensures fault { IfErr result (λ fault. IfFile fault (λ f. IfSome (S.left input.old) (λ bytes. IsFault None bytes f))) }
-    ensures few { TakesFewOfBatch None (S.left input.old) (S.left input.new) }
-    ensures read { result ≡ Err EngineFault.Read → Rose (S.faults input.old) (S.faults input.new) }
-    ensures write { result ≡ Err EngineFault.Write → Rose (K.faults output.old) (K.faults output.new) }
-    ensures line { (Rose (E.faults errors.old) (E.faults errors.new) → ⊥) → MatchResult result
+/// The status of a command on a batch that ended so, and the line on `errors` where it failed.
+fn finish<E: Sink>(errors: &mut E, ended: Result<(), EngineFault>) -> u8
+    ensures status { MatchResult ended (λ _. result ≡ 0) (λ fault. result ≡ batch_status fault) }
+    ensures says { (Rose (E.faults errors.old) (E.faults errors.new) → ⊥) → MatchResult ended
         (λ _. Keeps (E.taken errors.old) (E.taken errors.new)) (λ fault. Appends (E.taken errors.old) (E.taken errors.new) (engine_line fault)) }
+    ensures known { IsTrue (is_status result) }
+    ensures had_job { result ≢ 2 }
+    ensures read { result ≡ 4 → ended ≡ Err EngineFault.Read }
+    ensures write { result ≡ 5 → ended ≡ Err EngineFault.Write }
+    ensures line { (Rose (E.faults errors.old) (E.faults errors.new) → ⊥) → result ≢ 6 → result ≢ 7
+        → Appends (E.taken errors.old) (E.taken errors.new) (line_for result) }
 {
-    match verify(alloc, input, output) {
-        Ok(()) => Ok(()),
+    match ended {
+        Ok(()) => 0,
         Err(fault) => {
             let _said = put_engine_fault(errors, fault);
-            Err(fault)
+            batch_status(fault)
         }
     }
 }
 
-/// Runs `verify`, and gives the status.
+/// Runs `verify`, says on `errors` why where it fails, and gives the status.
 pub fn run_verify<S: Source, K: Sink, E: Sink>(
     alloc: Global,
     input: &mut S,
@@ -68,39 +65,10 @@ pub fn run_verify<S: Source, K: Sink, E: Sink>(
         → Appends (E.taken errors.old) (E.taken errors.new) (line_for result) }
 {
     flp_batch::laws::one_answer();
-    match do_verify(alloc, input, output, errors) {
-        Ok(()) => 0,
-        Err(fault) => batch_status(fault),
-    }
+    finish(errors, verify(alloc, input, output))
 }
 
-/// Does `prep`, and says on `errors` why where it fails.
-fn do_prep<S: Source, K: Sink, E: Sink>(
-    alloc: Global,
-    party: u32,
-    input: &mut S,
-    output: &mut K,
-    errors: &mut E,
-) -> Result<(), EngineFault>
-    ensures done { OnOk result (WritesText (Some party) (prepared_by party) (S.left input.old) (S.left input.new) (K.taken output.old) (K.taken output.new)) }
-    ensures stopped { OnErr result (StopsEarly (Some party) (prepared_by party) (S.left input.old) (S.left input.new) (K.taken output.old) (K.taken output.new)) }
-    ensures fault { IfErr result (λ fault. IfFile fault (λ f. IfSome (S.left input.old) (λ bytes. IsFault (Some party) bytes f))) }
-    ensures few { TakesFewOfBatch (Some party) (S.left input.old) (S.left input.new) }
-    ensures read { result ≡ Err EngineFault.Read → Rose (S.faults input.old) (S.faults input.new) }
-    ensures write { result ≡ Err EngineFault.Write → Rose (K.faults output.old) (K.faults output.new) }
-    ensures line { (Rose (E.faults errors.old) (E.faults errors.new) → ⊥) → MatchResult result
-        (λ _. Keeps (E.taken errors.old) (E.taken errors.new)) (λ fault. Appends (E.taken errors.old) (E.taken errors.new) (engine_line fault)) }
-{
-    match prep(alloc, party, input, output) {
-        Ok(()) => Ok(()),
-        Err(fault) => {
-            let _noted = put_engine_fault(errors, fault);
-            Err(fault)
-        }
-    }
-}
-
-/// Runs `prep`, and gives the status.
+/// Runs `prep`, says on `errors` why where it fails, and gives the status.
 pub fn run_prep<S: Source, K: Sink, E: Sink>(
     alloc: Global,
     party: u32,
@@ -120,10 +88,29 @@ pub fn run_prep<S: Source, K: Sink, E: Sink>(
         → Appends (E.taken errors.old) (E.taken errors.new) (line_for result) }
 {
     flp_batch::laws::one_answer();
-    match do_prep(alloc, party, input, output, errors) {
-        Ok(()) => 0,
-        Err(fault) => batch_status(fault),
-    }
+    finish(errors, prep(alloc, party, input, output))
+}
+
+/// Runs `explain`, says on `errors` why where it fails, and gives the status.
+pub fn run_explain<S: Source, K: Sink, E: Sink>(
+    alloc: Global,
+    input: &mut S,
+    output: &mut K,
+    errors: &mut E,
+) -> u8
+    ensures runs { RunsLines None explained_by
+        (stream (S.left input.old) (S.left input.new) (S.faults input.old) (S.faults input.new))
+        (stream (K.taken output.old) (K.taken output.new) (K.faults output.old) (K.faults output.new))
+        (stream (E.taken errors.old) (E.taken errors.new) (E.faults errors.old) (E.faults errors.new)) result }
+    ensures known { IsTrue (is_status result) }
+    ensures had_job { result ≢ 2 }
+    ensures read { result ≡ 4 → Rose (S.faults input.old) (S.faults input.new) }
+    ensures write { result ≡ 5 → Rose (K.faults output.old) (K.faults output.new) }
+    ensures line { (Rose (E.faults errors.old) (E.faults errors.new) → ⊥) → result ≢ 6 → result ≢ 7
+        → Appends (E.taken errors.old) (E.taken errors.new) (line_for result) }
+{
+    flp_batch::laws::one_answer();
+    finish(errors, explain(alloc, input, output))
 }
 
 /// Does `lengths`, and says on `errors` why where it fails.

@@ -11,12 +11,13 @@ ghost use Rattle.flp_load.specs.Loaded.{IsLoaded};
 ghost use Rattle.flp_worker.specs.Worker.{IsShapeOf};
 ghost use Rattle.flp_verdict.specs.Laws.{JudgesOnce, AcceptsHonest, SumsMeasurements};
 ghost use Rattle.flp_prep.specs.Text.{lines_by as prepared_by};
+ghost use Rattle.flp_explain.specs.Text.{text_by as explained_by};
 ghost use Rattle.flp_explain.specs.Laws.{LimitsFalseReports};
 ghost use Rattle.flp_cli.specs.Stream.{stream};
 ghost use Rattle.flp_cli.specs.Runs.{RunsVerify, RunsLines, RunsLengths};
 
 use crate::answers::{put_memory, put_usage};
-use crate::commands::{run_lengths, run_prep, run_verify};
+use crate::commands::{run_explain, run_lengths, run_prep, run_verify};
 use crate::policy::Policy;
 use flp_io::{Sink, Source};
 use flp_pool::Gate;
@@ -30,8 +31,9 @@ use std::thread::Threads;
 /// `output`; one thread serves every N. `lengths` reads a circuit text, of which it asks for at
 /// most 65,537 bytes, and writes the lengths of the circuit. `prep --party K`, K from 0 to 15, reads a
 /// batch and writes for each report the verifier words of share K alone, or the line of `verify`
-/// where no proof decided. For each status but 0 one line goes to `errors`, whose faults change no
-/// answer.
+/// where no proof decided. `explain` reads a batch and writes for each proof of each report the query
+/// word that limits it and how many values of that word are accepted at most, or that the encoding is
+/// valid. For each status but 0 one line goes to `errors`, whose faults change no answer.
 ///
 /// | status | meaning |
 /// |---|---|
@@ -45,8 +47,8 @@ use std::thread::Threads;
 ///
 /// After 3, 4, 5, 6 and 7 the output of `verify` has taken a prefix of the lines of the reports that
 /// were read whole, or, where its own fault came later, of the text; after 5 the output of `lengths`
-/// has taken a prefix of its lines, and after every status but 0 that of `prep` a prefix of the lines
-/// of the reports that were read whole. The policies, fewer than
+/// has taken a prefix of its lines, and after every status but 0 that of `prep` and of `explain` a
+/// prefix of the lines of the reports that were read whole. The policies, fewer than
 /// 4,294,967,295, are dropped untold, and the gate is not entered.
 pub fn run<R: Threads + Sync, S: Source, K: Sink, E: Sink, G: Gate>(
     _rt: &R,
@@ -71,6 +73,10 @@ pub fn run<R: Threads + Sync, S: Source, K: Sink, E: Sink, G: Gate>(
         (stream (S.left input.old) (S.left input.new) (S.faults input.old) (S.faults input.new))
         (stream (K.taken output.old) (K.taken output.new) (K.faults output.old) (K.faults output.new))
         (stream (E.taken errors.old) (E.taken errors.new) (E.faults errors.old) (E.faults errors.new)) result }
+    ensures explain { job_in (map (λ w. w.now) words.now) ≡ Some Job.Explain → RunsLines None explained_by
+        (stream (S.left input.old) (S.left input.new) (S.faults input.old) (S.faults input.new))
+        (stream (K.taken output.old) (K.taken output.new) (K.faults output.old) (K.faults output.new))
+        (stream (E.taken errors.old) (E.taken errors.new) (E.faults errors.old) (E.faults errors.new)) result }
     ensures lengths { job_in (map (λ w. w.now) words.now) ≡ Some Job.Lengths → RunsLengths
         (stream (S.left input.old) (S.left input.new) (S.faults input.old) (S.faults input.new))
         (stream (K.taken output.old) (K.taken output.new) (K.faults output.old) (K.faults output.new))
@@ -86,7 +92,8 @@ pub fn run<R: Threads + Sync, S: Source, K: Sink, E: Sink, G: Gate>(
         → (shape : Shape) (claims reports : List (List ℕ)) → AcceptsHonest program shape claims reports }
     ensures few { (text : List ℕ) (params : Option Params) (program : Program) → IsLoaded text params program
         → (shape : Shape) → IsShapeOf program shape → LimitsFalseReports program shape }
-    ensures sums { (params : Params) (shape : Shape) (claims reports : List (List ℕ)) → SumsMeasurements params shape claims reports }
+    ensures sums { (text : List ℕ) (params : Params) (program : Program) → IsLoaded text (Some params) program
+        → (shape : Shape) (claims reports : List (List ℕ)) → SumsMeasurements program params shape claims reports }
 
     // Words without a job.
     ensures no_job { result ≡ 2 → job_in (map (λ w. w.now) words.now) ≡ None }
@@ -106,12 +113,13 @@ pub fn run<R: Threads + Sync, S: Source, K: Sink, E: Sink, G: Gate>(
     flp_verdict::laws::once();
     flp_verify::laws::honest();
     flp_explain::laws::false_reports();
-    flp_verdict::laws::sums();
+    flp_verify::laws::sums();
     let _policies = policies;
     match job_of(alloc, words) {
         Ok(Some(Job::Verify(_))) => run_verify(alloc, input, output, errors),
         Ok(Some(Job::Lengths)) => run_lengths(alloc, input, output, errors),
         Ok(Some(Job::Prep(party))) => run_prep(alloc, party, input, output, errors),
+        Ok(Some(Job::Explain)) => run_explain(alloc, input, output, errors),
         Ok(None) => {
             let _said = put_usage(errors);
             2

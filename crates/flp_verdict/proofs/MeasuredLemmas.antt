@@ -51,8 +51,8 @@ outs_in-encodings params shape [] = refl
 outs_in-encodings params shape (report ∷ reports) =
     ap (λ (vs : List (List ℕ)). outs_of (standard_program params) (unshared_encoding shape (words_in shape report)) ∷ vs) (outs_in-encodings params shape reports)
 
-pub sums_measurements : (params : Params) (shape : Shape) (claims reports : List (List ℕ)) → OutsAreVectors → SumsMeasurements params shape claims reports
-sums_measurements params shape claims reports vectors inputs fits encode words =
+pub sums_measurements : (params : Params) → Fits params → (shape : Shape) (claims reports : List (List ℕ)) → OutsAreVectors → SumsMeasurements (standard_program params) params shape claims reports
+sums_measurements params fits shape claims reports vectors inputs encode words =
     let program = standard_program params in
     let accepted = accepted_in (judged program shape claims reports) in
     let outs : map (outs_in program shape) accepted ≡ map (vector_of params) inputs =

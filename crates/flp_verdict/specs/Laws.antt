@@ -9,7 +9,6 @@ use Rattle.flp_meaning.specs.Gadgets.{out_count}
 use Rattle.flp_meaning.specs.Proof.{honest_proof}
 use Rattle.flp_meaning.specs.ProofLaws.{AreSeeds}
 use Rattle.flp_meaning.specs.Verifier.{gadget_in_domain}
-use Rattle.flp_circuits.specs.Sizes.{Fits}
 use Rattle.flp_circuits.specs.Encoding.{encoding_of, vector_of, meas_fault}
 use Rattle.flp_circuits.specs.Standard.{standard_program}
 use Rattle.flp_report.specs.declared.shape.Shape.{Shape}
@@ -88,10 +87,10 @@ pub record Encode (params : Params) (shape : Shape) (reports inputs : List (List
 abbrev pub measured : Params → List (List ℕ) → List ℕ
 measured params inputs = whole_sum (out_count (standard_program params)) (map (vector_of params) inputs)
 
--- where it is below p in each place, it is the aggregate
-abbrev pub SumsMeasurements : Params → Shape → (claims reports : List (List ℕ)) → Type 0
-SumsMeasurements params shape claims reports =
-    (inputs : List (List ℕ)) → Fits params
-    → Encode params shape (accepted_in (judged (standard_program params) shape claims reports)) inputs
+-- where it is below p in each place, it is the aggregate of this circuit
+abbrev pub SumsMeasurements : Program → Params → Shape → (claims reports : List (List ℕ)) → Type 0
+SumsMeasurements program params shape claims reports =
+    (inputs : List (List ℕ))
+    → Encode params shape (accepted_in (judged program shape claims reports)) inputs
     → AreWords (measured params inputs)
-    → aggregate_of (standard_program params) shape (judged (standard_program params) shape claims reports) ≡ measured params inputs
+    → aggregate_of program shape (judged program shape claims reports) ≡ measured params inputs

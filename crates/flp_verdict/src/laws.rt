@@ -4,6 +4,8 @@ ghost use Rattle.std.specs.Prelude.{List, ℕ};
 ghost use Rattle.flp_syntax.specs.Tree.{Program};
 ghost use Rattle.flp_syntax.specs.declared.syntax.Params.{Params};
 ghost use Rattle.flp_meaning.specs.ProofLaws.{IsBounded};
+ghost use Rattle.flp_circuits.specs.Sizes.{Fits};
+ghost use Rattle.flp_circuits.specs.Standard.{standard_program};
 ghost use Rattle.flp_report.specs.declared.shape.Shape.{Shape};
 ghost use Rattle.flp_verdict.specs.Laws.{JudgesOnce, AcceptsHonest, SumsMeasurements};
 
@@ -24,7 +26,7 @@ pub fn honest()
 /// Where the accepted records of a standard circuit encode measurements whose sum is below p in each place, the
 /// aggregate is that sum.
 pub fn sums()
-    ensures { (params : Params) (shape : Shape) (claims reports : List (List ℕ)) → SumsMeasurements params shape claims reports }
+    ensures { (params : Params) → Fits params → (shape : Shape) (claims reports : List (List ℕ)) → SumsMeasurements (standard_program params) params shape claims reports }
 {
     flp_circuits::laws::encodings();
 }

@@ -1,11 +1,11 @@
 //! The laws of what `verify` writes, each the contract of a function that does nothing. The statements are in
 //! flp_verdict's `specs/Laws.antt`.
-ghost use Rattle.std.specs.Prelude.{ℕ, List, Option};
+ghost use Rattle.std.specs.Prelude.{ℕ, List, Option, Some};
 ghost use Rattle.flp_syntax.specs.Tree.{Program};
 ghost use Rattle.flp_syntax.specs.declared.syntax.Params.{Params};
 ghost use Rattle.flp_report.specs.declared.shape.Shape.{Shape};
 ghost use Rattle.flp_load.specs.Loaded.{IsLoaded};
-ghost use Rattle.flp_verdict.specs.Laws.{AcceptsHonest};
+ghost use Rattle.flp_verdict.specs.Laws.{AcceptsHonest, SumsMeasurements};
 
 /// An honest record of a batch, whatever circuit its text is loaded as, is in the domain exactly where some query
 /// point is, and else accepted.
@@ -14,4 +14,13 @@ pub fn honest()
         → (shape : Shape) (claims reports : List (List ℕ)) → AcceptsHonest program shape claims reports }
 {
     flp_verdict::laws::honest();
+}
+
+/// Where the text of a batch names a standard circuit, and the accepted records encode measurements whose sum is below
+/// p in each place, the aggregate is that sum.
+pub fn sums()
+    ensures { (text : List ℕ) (params : Params) (program : Program) → IsLoaded text (Some params) program
+        → (shape : Shape) (claims reports : List (List ℕ)) → SumsMeasurements program params shape claims reports }
+{
+    flp_verdict::laws::sums();
 }

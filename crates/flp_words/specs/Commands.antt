@@ -11,6 +11,10 @@ required_option name = record (new_rule name) { long = Some name; required = tru
 abbrev pub verify_command : App
 verify_command = with_rule (new_app (codes "verify")) (required_option (codes "workers"))
 
+-- `prove`
+abbrev pub prove_command : App
+prove_command = new_app (codes "prove")
+
 -- `lengths`
 abbrev pub lengths_command : App
 lengths_command = new_app (codes "lengths")
@@ -19,6 +23,14 @@ lengths_command = new_app (codes "lengths")
 abbrev pub prep_command : App
 prep_command = with_rule (new_app (codes "prep")) (required_option (codes "party"))
 
+-- `explain`
+abbrev pub explain_command : App
+explain_command = new_app (codes "explain")
+
+-- the program, with the commands that make a batch and verify one
+abbrev pub batch_commands : App
+batch_commands = with_subcommand (with_subcommand (new_app (codes "flp")) verify_command.top) prove_command.top
+
 -- the program, with a subcommand for each command
 abbrev pub flp_command : App
-flp_command = with_subcommand (with_subcommand (with_subcommand (new_app (codes "flp")) verify_command.top) lengths_command.top) prep_command.top
+flp_command = with_subcommand (with_subcommand (with_subcommand batch_commands lengths_command.top) prep_command.top) explain_command.top

@@ -3,7 +3,7 @@ use Rattle.std.specs.Prelude.{ℕ, List, [], ◌∷◌, Option, Some, None, opti
 use Rattle.std.specs.Str.{bytes_eq}
 use Rattle.clap.specs.Words.{Kinds, Row, Text, fault_of, first_of, subcommand_of}
 use Rattle.flp_words.specs.declared.job.Job.{Job}
-use Rattle.flp_words.specs.declared.job.Job.TheVariants.{Verify, Lengths, Prep}
+use Rattle.flp_words.specs.declared.job.Job.TheVariants.{Verify, Prove, Lengths, Prep, Explain}
 use Rattle.flp_words.specs.Number.{number_in}
 use Rattle.flp_words.specs.Commands.{flp_command}
 
@@ -23,9 +23,11 @@ prep_job rows = option_map Prep (number_of rows (codes "party") 0 15)
 abbrev pub job_named : Text → List Row → Option Job
 job_named name rows =
     if bytes_eq name (codes "verify") then verify_job rows
+    else (if bytes_eq name (codes "prove") then Some Prove
     else (if bytes_eq name (codes "lengths") then Some Lengths
     else (if bytes_eq name (codes "prep") then prep_job rows
-    else None))
+    else (if bytes_eq name (codes "explain") then Some Explain
+    else None))))
 
 -- the job of the command that `clap` met
 abbrev pub job_at : Option (Text × List Row) → Option Job

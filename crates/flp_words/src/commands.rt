@@ -2,7 +2,7 @@
 ghost use Rattle.std.specs.Prelude.{◌≡◌, IfOk, false};
 ghost use Rattle.clap.specs.Words.{app_of, rule_of};
 ghost use Rattle.clap.specs.declared.builder.command.Command.TheViews.{out-Command as fields_of};
-ghost use Rattle.flp_words.specs.Commands.{required_option, verify_command, prep_command, flp_command};
+ghost use Rattle.flp_words.specs.Commands.{required_option, verify_command, prep_command, batch_commands, flp_command};
 
 use clap::{Arg, ArgAction, Command};
 use std::alloc::{AllocError, Global};
@@ -34,12 +34,21 @@ fn prep_command<'a>(alloc: Global) -> Result<Command<'a>, AllocError>
     Command::new(alloc, "prep").arg(required_option(alloc, "party"))
 }
 
+/// The program, with the commands that make a batch and verify one.
+fn batch_commands<'a>(alloc: Global) -> Result<Command<'a>, AllocError>
+    ensures app { IfOk result (λ c. app_of c ≡ batch_commands) }
+{
+    Command::new(alloc, "flp")
+        .subcommand(verify_command(alloc)?)?
+        .subcommand(Command::new(alloc, "prove"))
+}
+
 /// The program, with a subcommand for each command.
 pub fn flp_command<'a>(alloc: Global) -> Result<Command<'a>, AllocError>
     ensures app { IfOk result (λ c. app_of c ≡ flp_command) }
 {
-    Command::new(alloc, "flp")
-        .subcommand(verify_command(alloc)?)?
+    batch_commands(alloc)?
         .subcommand(Command::new(alloc, "lengths"))?
-        .subcommand(prep_command(alloc)?)
+        .subcommand(prep_command(alloc)?)?
+        .subcommand(Command::new(alloc, "explain"))
 }

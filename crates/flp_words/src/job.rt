@@ -14,10 +14,14 @@ use std::alloc::{AllocError, Global};
 pub enum Job {
     /// Verify a batch, with so many workers, from 1 to 16.
     Verify(u32),
+    /// Make a batch of the measurements of a job file.
+    Prove,
     /// Say the lengths of a circuit.
     Lengths,
     /// Make the verifiers of the share of this party, from 0 to 15.
     Prep(u32),
+    /// Say which query word limits each false proof.
+    Explain,
 }
 
 /// The text that an option has.
@@ -54,8 +58,10 @@ fn job_named(name: &str, matches: &ArgMatches<'_>) -> Option<Job>
 {
     match name {
         "verify" => verify_job(matches),
+        "prove" => Some(Job::Prove),
         "lengths" => Some(Job::Lengths),
         "prep" => prep_job(matches),
+        "explain" => Some(Job::Explain),
         _ => None,
     }
 }

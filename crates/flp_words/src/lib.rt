@@ -8,8 +8,10 @@
 //! | words | job |
 //! |---|---|
 //! | `verify --workers N`, N from 1 to 16 | [`Job::Verify`] |
+//! | `prove` | [`Job::Prove`] |
 //! | `lengths` | [`Job::Lengths`] |
 //! | `prep --party K`, K from 0 to 15 | [`Job::Prep`] |
+//! | `explain` | [`Job::Explain`] |
 //!
 //! A further command is one variant of [`Job`], one declaration in `commands.rt` and one line in
 //! `job_named`, each with its line in `specs/`.

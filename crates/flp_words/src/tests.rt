@@ -3,7 +3,7 @@ use crate::{Job, Memory, job_of};
 
 #[test]
 fn jobs_of_words(rt: HostRuntime) -> Result<(), Memory> {
-    let rows: [(&[&str], Option<Job>); 29] = [
+    let rows: [(&[&str], Option<Job>); 31] = [
         (&[], None),
         (&["flp"], None),
         (&["flp", "verify"], None),
@@ -35,7 +35,9 @@ fn jobs_of_words(rt: HostRuntime) -> Result<(), Memory> {
         (&["flp", "help", "verify"], None),
         (&["flp", "--help"], None),
         (&["flp", "verify", "--help"], None),
-        (&["flp", "prove"], None),
+        (&["flp", "prove"], Some(Job::Prove)),
+        (&["flp", "prove", "x"], None),
+        (&["flp", "explain"], Some(Job::Explain)),
     ];
     for (words, job) in rows {
         let answer = job_of(rt.alloc(), words)?;

@@ -18,3 +18,10 @@ returns-in-Ok-Some-Prep-clause-prep g c = λ party is.
 -- no memory for the words
 pub returns-clause-prep : goal.returns-clause-prep
 returns-clause-prep g c = λ party is. lines-unread _ _ _ _ _ _ _
+
+pub returns-in-Ok-Some-Explain-clause-explain : goal.returns-in-Ok-Some-Explain-clause-explain
+returns-in-Ok-Some-Explain-clause-explain g c = λ is. c.run_explain.ensures.runs
+
+-- no memory for the words
+pub returns-clause-explain : goal.returns-clause-explain
+returns-clause-explain g c = λ is. lines-unread _ _ _ _ _ _ _
