@@ -14,6 +14,8 @@ const VERIFY: [&str; 4] = ["flp", "verify", "--workers", "1"];
 
 const LENGTHS: [&str; 2] = ["flp", "lengths"];
 
+const EXPLAIN: [&str; 2] = ["flp", "explain"];
+
 // How the file of a batch begins, up to the number of reports.
 const HEAD: [u8; 28] = *b"FLPBATCH\x01\0\0\0\x02\0\0\0\x01\0\0\0\x0a\0\0\0\0\0\0\0";
 
@@ -487,13 +489,15 @@ fn each_write_fails_in_turn(rt: HostRuntime) -> Result<(), Fail> {
 // that are cut, and the status, which stays.
 #[test]
 fn faults_of_errors_change_no_status(rt: HostRuntime) -> Result<(), Fail> {
-    let runs: [(&[&str], u64, u64, usize, u8); 6] = [
+    let runs: [(&[&str], u64, u64, usize, u8); 8] = [
         (&VERIFY, 99, 99, 162, 0),
         (&["flp"], 99, 99, 162, 2),
         (&VERIFY, 0, 99, 162, 4),
         (&VERIFY, 99, 0, 162, 5),
         (&VERIFY, 99, 99, 161, 6),
         (&VERIFY, 99, 99, 1, 6),
+        (&LENGTHS, 99, 99, 162, 7),
+        (&EXPLAIN, 99, 99, 161, 6),
     ];
     for (words, read, write, size, wanted) in runs {
         let mut bytes = batch(rt.alloc(), &[(0, HONEST)])?;
@@ -563,6 +567,39 @@ fn verifiers_of_parties(rt: HostRuntime) -> Result<(), Fail> {
         assert_eq!(rt; output.taken(), written);
         assert_eq!(rt; errors.taken(), line);
     }
+    Ok(())
+}
+
+// A false proof, the true one, a false encoding with its true proof, and a record with a word that is none.
+#[test]
+fn explanations(rt: HostRuntime) -> Result<(), Fail> {
+    let reports = [
+        (0, FALSE),
+        (1, HONEST),
+        (0, TWO),
+        (2, with_word(HONEST, 6, P)),
+    ];
+    let mut input = source(rt.alloc(), batch(rt.alloc(), &reports)?);
+    let mut output = sink(rt.alloc())?;
+    let mut errors = sink(rt.alloc())?;
+    let status = run_on(
+        &rt,
+        rt.alloc(),
+        &EXPLAIN,
+        &mut input,
+        &mut output,
+        &mut errors,
+    )?;
+    assert_eq!(rt; status, 0);
+    assert_eq!(rt;
+        output.taken(),
+        b"000102030405060708090a0b0c0d0e0f 0 word 0 bound 2\n\
+        010102030405060708090a0b0c0d0e0f 0 valid\n\
+        000102030405060708090a0b0c0d0e0f 0 word 0 bound 0\n\
+        020102030405060708090a0b0c0d0e0f malformed 6\n"
+            .as_slice()
+    );
+    assert_eq!(rt; errors.taken(), b"".as_slice());
     Ok(())
 }
 

@@ -4,11 +4,8 @@ use Rattle.flp_syntax.specs.declared.fault.LangFault.TheVariants as lang
 use Rattle.flp_report.specs.declared.fault.BatchFault.{BatchFault}
 use Rattle.flp_report.specs.declared.fault.BatchFault.TheVariants as batch
 use Rattle.flp_load.specs.declared.fault.CircuitFault.TheVariants as circuit
-use Rattle.flp_lines.specs.Circuit.{numbered, circuit_line}
-
--- words and two numbers
-abbrev pub paired : List ℕ → ℕ → ℕ → List ℕ
-paired words first second = numbered words first ++ numbered (codes " ") second
+use Rattle.flp_lines.specs.Pieces.{numbered, paired}
+use Rattle.flp_lines.specs.Circuit.{circuit_line}
 
 -- the words of each fault
 abbrev pub batch_text : BatchFault → List ℕ
@@ -28,7 +25,15 @@ batch_text (batch.Party shares) = numbered (codes "party ") shares
 abbrev pub file_line : List ℕ → BatchFault → List ℕ
 file_line file fault = (codes "flp: " ++ file ++ codes ": ") ++ batch_text fault ++ codes "\n"
 
--- the line of a batch; a text that is too long is a refused circuit
+-- the same, but that a text that is too long is a refused circuit
+abbrev pub refused_line : List ℕ → BatchFault → List ℕ
+refused_line file (batch.TextLength length) = circuit_line (circuit.Lang (lang.TextLength length))
+refused_line file fault = file_line file fault
+
+-- the line of a batch
 abbrev pub batch_line : BatchFault → List ℕ
-batch_line (batch.TextLength length) = circuit_line (circuit.Lang (lang.TextLength length))
-batch_line fault = file_line (codes "batch") fault
+batch_line fault = refused_line (codes "batch") fault
+
+-- the line of a job file
+abbrev pub job_line : BatchFault → List ℕ
+job_line fault = refused_line (codes "job") fault

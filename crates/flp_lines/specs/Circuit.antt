@@ -1,5 +1,5 @@
 -- The line of a refused circuit, from its words up to the line.
-use Rattle.std.specs.Prelude.{ℕ, List, ◌++◌, codes, decimal}
+use Rattle.std.specs.Prelude.{ℕ, List, ◌++◌, codes}
 use Rattle.flp_syntax.specs.declared.fault.LangFault.{LangFault}
 use Rattle.flp_syntax.specs.declared.fault.LangFault.TheVariants as lang
 use Rattle.flp_syntax.specs.declared.fault.Counted.{Counted}
@@ -14,6 +14,7 @@ use Rattle.flp_plan.specs.declared.fault.PlanCounted.{PlanCounted}
 use Rattle.flp_plan.specs.declared.fault.PlanCounted.TheVariants as planned
 use Rattle.flp_load.specs.declared.fault.CircuitFault.{CircuitFault}
 use Rattle.flp_load.specs.declared.fault.CircuitFault.TheVariants as circuit
+use Rattle.flp_lines.specs.Pieces.{named, numbered}
 
 -- what a limit of a text counts
 abbrev pub counted_name : Counted → List ℕ
@@ -41,14 +42,6 @@ param_name param.Calls = codes "calls"
 abbrev pub planned_name : PlanCounted → List ℕ
 planned_name planned.Wires = codes "wires"
 planned_name planned.Terms = codes "terms"
-
--- words and a number
-abbrev pub numbered : List ℕ → ℕ → List ℕ
-numbered words number = words ++ decimal number
-
--- words, a name and a number
-abbrev pub named : List ℕ → List ℕ → ℕ → List ℕ
-named words name number = words ++ name ++ numbered (codes " ") number
 
 -- the words of each fault; want of memory is none that a circuit has
 abbrev pub lang_text : LangFault → List ℕ

@@ -1,25 +1,15 @@
-//! The line of a file that is no batch.
+//! The line of a file that is no batch, or no job file.
 ghost use Rattle.std.specs.Prelude.{◌++◌, codes, OnOk};
 ghost use Rattle.std.specs.Io.KnownBytes.{Appends};
 ghost use Rattle.flp_io.specs.Faults.{HasCause};
-ghost use Rattle.flp_lines.specs.Batch.{paired, batch_text, file_line, batch_line};
+ghost use Rattle.flp_lines.specs.Batch.{batch_text, file_line, refused_line, batch_line, job_line};
 
 use crate::circuit::put_circuit_fault;
-use crate::pieces::put_numbered;
+use crate::pieces::{put_numbered, put_paired};
 use flp_io::{Failed, Sink, put};
 use flp_load::CircuitFault;
 use flp_report::BatchFault;
 use flp_syntax::LangFault;
-
-/// Writes words and two numbers in decimal digits.
-#[tactic(auto, using(flp_io::proofs::WriteLemmas::writes_join))]
-fn put_paired<E: Sink>(errors: &mut E, words: &[u8], first: u64, second: u64) -> Result<(), Failed>
-    ensures bytes { OnOk result (Appends (E.taken errors.old) (E.taken errors.new) (paired words.now first second)) }
-    ensures cause { HasCause (E.faults errors.old) (E.faults errors.new) result }
-{
-    put_numbered(errors, words, first)?;
-    put_numbered(errors, b" ", second)
-}
 
 /// Writes the words of a fault.
 fn put_batch_text<E: Sink>(errors: &mut E, fault: BatchFault) -> Result<(), Failed>
@@ -65,6 +55,20 @@ fn put_file_fault<E: Sink>(errors: &mut E, file: &[u8], fault: BatchFault) -> Re
     put(errors, b"\n")
 }
 
+/// Writes the line of a fault of a file of this kind; a text that is too long is a refused circuit.
+fn put_refusal<E: Sink>(errors: &mut E, file: &[u8], fault: BatchFault) -> Result<(), Failed>
+    ensures bytes { OnOk result (Appends (E.taken errors.old) (E.taken errors.new) (refused_line file.now fault)) }
+    ensures cause { HasCause (E.faults errors.old) (E.faults errors.new) result }
+{
+    match fault {
+        BatchFault::TextLength(length) => {
+            let fault = CircuitFault::Lang(LangFault::TextLength(u64::from(length)));
+            put_circuit_fault(errors, fault)
+        }
+        fault => put_file_fault(errors, file, fault),
+    }
+}
+
 /// Writes the line of a batch's fault; a text that is too long is a refused circuit. It takes no memory.
 ///
 /// # Errors
@@ -73,11 +77,16 @@ pub fn put_batch_fault<E: Sink>(errors: &mut E, fault: BatchFault) -> Result<(),
     ensures bytes { OnOk result (Appends (E.taken errors.old) (E.taken errors.new) (batch_line fault)) }
     ensures cause { HasCause (E.faults errors.old) (E.faults errors.new) result }
 {
-    match fault {
-        BatchFault::TextLength(length) => {
-            let fault = CircuitFault::Lang(LangFault::TextLength(u64::from(length)));
-            put_circuit_fault(errors, fault)
-        }
-        fault => put_file_fault(errors, b"batch", fault),
-    }
+    put_refusal(errors, b"batch", fault)
+}
+
+/// Writes the line of a job file's fault; a text that is too long is a refused circuit. It takes no memory.
+///
+/// # Errors
+/// The sink failed.
+pub fn put_job_fault<E: Sink>(errors: &mut E, fault: BatchFault) -> Result<(), Failed>
+    ensures bytes { OnOk result (Appends (E.taken errors.old) (E.taken errors.new) (job_line fault)) }
+    ensures cause { HasCause (E.faults errors.old) (E.faults errors.new) result }
+{
+    put_refusal(errors, b"job", fault)
 }

@@ -1,9 +1,12 @@
 //! The lines, word for word.
-use crate::{put_circuit_fault, put_named, put_numbered};
+use crate::{
+    put_batch_fault, put_circuit_fault, put_job_fault, put_named, put_numbered, put_paired,
+};
 use flp_circuits::{Param, ParamFault};
 use flp_io::MemorySink;
 use flp_load::CircuitFault;
 use flp_plan::{PlanCounted, PlanFault};
+use flp_report::BatchFault;
 use flp_syntax::{Counted, LangFault};
 use std::alloc::{AllocError, Global};
 
@@ -65,6 +68,42 @@ fn lines_of_refused_circuits(rt: HostRuntime) -> Result<(), AllocError> {
     let mut errors = sink(rt.alloc())?;
     assert!(rt; put_numbered(&mut errors, b"lex ", 0) == Ok(()));
     assert!(rt; put_named(&mut errors, b"limit ", b"outs", 10) == Ok(()));
-    assert_eq!(rt; errors.taken(), b"lex 0limit outs 10".as_slice());
+    assert!(rt; put_paired(&mut errors, b" word ", 2, 11) == Ok(()));
+    assert_eq!(rt; errors.taken(), b"lex 0limit outs 10 word 2 11".as_slice());
+    Ok(())
+}
+
+#[test]
+fn lines_of_refused_files(rt: HostRuntime) -> Result<(), AllocError> {
+    let rows: [(BatchFault, &[u8]); 10] = [
+        (BatchFault::Magic, b"magic"),
+        (BatchFault::Version(2), b"version 2"),
+        (BatchFault::Shares(17), b"shares 17"),
+        (BatchFault::Proofs(0), b"proofs 0"),
+        (BatchFault::ClaimsOrder(1), b"claims order 1"),
+        (BatchFault::TooLarge(1080000042), b"too large 1080000042"),
+        (BatchFault::Truncated(161, 162), b"truncated 161 162"),
+        (BatchFault::Trailing, b"trailing"),
+        (BatchFault::Word(0, 9), b"word 0 9"),
+        (BatchFault::Party(2), b"party 2"),
+    ];
+    for (fault, words) in rows {
+        let mut errors = sink(rt.alloc())?;
+        assert!(rt; put_batch_fault(&mut errors, fault) == Ok(()));
+        assert!(rt; put_job_fault(&mut errors, fault) == Ok(()));
+        let mut lines = Vec::new(rt.alloc());
+        for start in [b"flp: batch: ".as_slice(), b"flp: job: ".as_slice()] {
+            lines.extend_from_slice(start)?;
+            lines.extend_from_slice(words)?;
+            lines.push(b'\n')?;
+        }
+        assert_eq!(rt; errors.taken(), lines.as_slice());
+    }
+    let mut errors = sink(rt.alloc())?;
+    assert!(rt; put_batch_fault(&mut errors, BatchFault::TextLength(65537)) == Ok(()));
+    assert_eq!(rt;
+        errors.taken(),
+        b"flp: circuit: text length 65537\n".as_slice()
+    );
     Ok(())
 }

@@ -4,6 +4,7 @@ use crate::{EngineFault, verify};
 use flp_io::{MemorySink, MemorySource};
 use flp_report::BatchFault;
 use std::alloc::{AllocError, Global};
+use std::process::Abort;
 use std::test::Fail;
 
 const P: u64 = 18446744069414584321;
@@ -58,6 +59,185 @@ const MINUS_ONE: &[u64] = &[
     12682136547722526720,
     11529144674639937536,
     1152886319966322687,
+];
+
+// Encodings with seeds that are all 1, and of each word 1 is taken. 5 as a sum up to 5; the last place of five.
+const FIVE: &[u64] = &[
+    0,
+    P - 1,
+    0,
+    0,
+    0,
+    0,
+    0,
+    3458764513015234559,
+    17592187092991,
+    17582039781380980728,
+    17870274555512619000,
+    18446735238961299464,
+    576469582621442039,
+    18158518091377016832,
+    P - 1,
+    14987979556399349760,
+    18446726477227491328,
+    864704288033603591,
+    576469513901965319,
+    8830453284855,
+    17870274486793142280,
+    288225978037567487,
+];
+
+const FIFTH: &[u64] = &[
+    P - 1,
+    P - 1,
+    P - 1,
+    P - 1,
+    0,
+    0,
+    0,
+    0,
+    0,
+    4611686017353646079,
+    14987997148585394176,
+    12682189324280659968,
+    9223372034707292160,
+    4611686017353646080,
+    12682118955536482304,
+    14987926779841216512,
+];
+
+// A number from 0 to 3 and a 1, or 0 and 0: a circuit with two gadgets and three checks.
+const RATING: &[u8] = b"meas 2; joint 0; gadget both = mul; gadget range = poly 0 -6 11 -6 1;\
+    check both(meas[1], meas[1]) - meas[1]; check range(meas[0]); check both(meas[0], meas[1]) - meas[0];\
+    out meas[0]; out meas[1];";
+
+// The ratings 2 and 4.
+const RATED: &[u64] = &[
+    1,
+    0,
+    0,
+    0,
+    4611686017353646080,
+    3458641367712923647,
+    8070468122554925056,
+    4611756386097823743,
+    13835058052060938240,
+    1152974280896544767,
+    1152903912152367103,
+    0,
+    8070450530368880640,
+    P - 1,
+    11529215043384115199,
+    P - 1,
+    17293822565076172800,
+];
+
+const OVERRATED: &[u64] = &[
+    3,
+    0,
+    0,
+    0,
+    16140901060737761281,
+    10376135209371303935,
+    17293875341634306049,
+    13835128420805115903,
+    11529215043384115200,
+    3458852473945456639,
+    1152868727780278271,
+    0,
+    17293822565076172799,
+    9223372034707292161,
+    2305843008676823047,
+    9223372034707292146,
+    17293822565076172805,
+];
+
+// 1 in sixteen shares: 15 is taken of each word.
+const ONE_OF_SIXTEEN: &[u64] = &[P - 14, P - 12, P - 10, P - 9, P - 8, P - 13];
+
+// 1 with sixteen proofs whose seeds are 1, so that the wires are 1 and so is their product.
+const SIXTEEN_PROOFS: &[u64] = &[
+    0,
+    0,
+    0,
+    0,
+    P - 1,
+    P - 1,
+    0,
+    0,
+    0,
+    P - 1,
+    P - 1,
+    0,
+    0,
+    0,
+    P - 1,
+    P - 1,
+    0,
+    0,
+    0,
+    P - 1,
+    P - 1,
+    0,
+    0,
+    0,
+    P - 1,
+    P - 1,
+    0,
+    0,
+    0,
+    P - 1,
+    P - 1,
+    0,
+    0,
+    0,
+    P - 1,
+    P - 1,
+    0,
+    0,
+    0,
+    P - 1,
+    P - 1,
+    0,
+    0,
+    0,
+    P - 1,
+    P - 1,
+    0,
+    0,
+    0,
+    P - 1,
+    P - 1,
+    0,
+    0,
+    0,
+    P - 1,
+    P - 1,
+    0,
+    0,
+    0,
+    P - 1,
+    P - 1,
+    0,
+    0,
+    0,
+    P - 1,
+    P - 1,
+    0,
+    0,
+    0,
+    P - 1,
+    P - 1,
+    0,
+    0,
+    0,
+    P - 1,
+    P - 1,
+    0,
+    0,
+    0,
+    P - 1,
+    P - 1,
 ];
 
 /// A record: the first byte of its nonce, which goes on with 1 to 15; the words of share 0; and the proofs' own words.
@@ -166,6 +346,17 @@ fn report<'a>(nonce: u8, first: &'a [u64], own: &'a [u64]) -> Given<'a> {
     Given { nonce, first, own }
 }
 
+/// Sees that each batch has its text.
+fn see<R: Abort>(rt: &R, alloc: Global, cases: &[Case]) -> Result<(), Fail> {
+    for case in cases {
+        let bytes = file(alloc, &case.batch, case.batch.records.len() as u64)?;
+        let (result, output) = answer(alloc, bytes)?;
+        assert_eq!(rt; result, Ok(()), "{}", case.name);
+        assert_eq!(rt; output.taken(), case.text, "{}", case.name);
+    }
+    Ok(())
+}
+
 #[test]
 fn texts_of_batches(rt: HostRuntime) -> Result<(), Fail> {
     let honest = [report(0, ONE, &[2])];
@@ -261,13 +452,78 @@ fn texts_of_batches(rt: HostRuntime) -> Result<(), Fail> {
                 aggregate 18446744069414584319\n",
         },
     ];
-    for case in &cases {
-        let bytes = file(rt.alloc(), &case.batch, case.batch.records.len() as u64)?;
-        let (result, output) = answer(rt.alloc(), bytes)?;
-        assert_eq!(rt; result, Ok(()), "{}", case.name);
-        assert_eq!(rt; output.taken(), case.text, "{}", case.name);
-    }
-    Ok(())
+    see(&rt, rt.alloc(), &cases)
+}
+
+#[test]
+fn texts_of_larger_batches(rt: HostRuntime) -> Result<(), Fail> {
+    let sums = [report(0, FIVE, &[1, 1, 1, 1, 1, 1, 1, 2])];
+    let places = [report(0, FIFTH, &[1, 1, 1, 1, 1, 2])];
+    let ratings = [
+        report(0, RATED, &[1, 1, 1, 2, 2]),
+        report(1, OVERRATED, &[1, 1, 1, 2, 2]),
+        report(2, RATED, &[1, 1, 1, 2, 1]),
+    ];
+    let in_sixteen = [report(0, ONE_OF_SIXTEEN, &[2])];
+    let proved = [
+        report(
+            0,
+            SIXTEEN_PROOFS,
+            &[2, 2, 2, 2, 2, 2, 2, 2, 2, 2, 2, 2, 2, 2, 2, 3],
+        ),
+        report(
+            1,
+            SIXTEEN_PROOFS,
+            &[2, 2, 2, 2, 2, 2, 2, 2, 2, 2, 2, 2, 2, 2, 2, 1],
+        ),
+    ];
+    let cases = [
+        Case {
+            name: "a sum",
+            batch: in_two_shares(b"use sum max=5;", &[], &sums),
+            text: b"000102030405060708090a0b0c0d0e0f accepted\ncount 1\naggregate 5\n",
+        },
+        Case {
+            name: "a histogram whose last chunk is not whole",
+            batch: in_two_shares(b"use histogram length=5 chunk=2;", &[], &places),
+            text: b"000102030405060708090a0b0c0d0e0f accepted\ncount 1\naggregate 0 0 0 0 1\n",
+        },
+        Case {
+            name: "two gadgets and three checks",
+            batch: in_two_shares(RATING, &[], &ratings),
+            text: b"000102030405060708090a0b0c0d0e0f accepted\n\
+                010102030405060708090a0b0c0d0e0f rejected\n\
+                020102030405060708090a0b0c0d0e0f domain 0 1\n\
+                count 1\n\
+                aggregate 2 1\n",
+        },
+        Case {
+            name: "sixteen shares",
+            batch: Batch {
+                shares: 16,
+                proofs: 1,
+                text: COUNT,
+                claims: &[],
+                records: &in_sixteen,
+            },
+            text: b"000102030405060708090a0b0c0d0e0f accepted\ncount 1\naggregate 1\n",
+        },
+        Case {
+            name: "sixteen proofs",
+            batch: Batch {
+                shares: 2,
+                proofs: 16,
+                text: COUNT,
+                claims: &[],
+                records: &proved,
+            },
+            text: b"000102030405060708090a0b0c0d0e0f accepted\n\
+                010102030405060708090a0b0c0d0e0f domain 15 0\n\
+                count 1\n\
+                aggregate 1\n",
+        },
+    ];
+    see(&rt, rt.alloc(), &cases)
 }
 
 #[test]

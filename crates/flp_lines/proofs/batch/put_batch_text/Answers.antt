@@ -1,6 +1,6 @@
 use Rattle.std.proofs.Common.{ℕ, codes, OnOk, subst}
 use Rattle.std.specs.Io.KnownBytes.{Appends}
-use Rattle.flp_lines.specs.Circuit.{numbered}
+use Rattle.flp_lines.specs.Pieces.{numbered}
 use Rattle.flp_lines.proofs.batch.put_batch_text.Goals as goal
 
 pub returns-in-TextLength-clause-bytes : goal.returns-in-TextLength-clause-bytes
