@@ -1,5 +1,5 @@
 #!/usr/bin/env python3
-"""Remakes the files in `examples/`: circuit texts, and batches of reports on them.
+"""Remakes the files in `examples/`: circuit texts, job files, and batches of reports.
 
     make_examples.py                    writes them
     make_examples.py --check            names those that differ from what would be written
@@ -309,11 +309,14 @@ class Report:
 def report(circuit, x, joint=(), query=(), shares=2, first=3):
     """A report with its honest proofs, one for each list of query words. Seeds go up by 2 from `first`."""
     x = [word % P for word in x]
-    proofs = []
-    for k in range(len(query)):
-        seeds = [first + 2 * j + k for j in range(sum(g.arity for g in circuit.gadgets))]
-        proofs.append(honest(circuit, x, list(joint[k]) if joint else [], seeds))
+    seeds = [own_seeds(circuit, first + k) for k in range(len(query))]
+    proofs = [honest(circuit, x, list(joint[k]) if joint else [], own) for k, own in enumerate(seeds)]
     return Report(circuit, x, proofs, joint, query, shares)
+
+
+def own_seeds(circuit, first):
+    """The seeds of a proof: odd steps up from the first."""
+    return [first + 2 * j for j in range(sum(g.arity for g in circuit.gadgets))]
 
 
 def changed(given, at, word):
@@ -391,6 +394,29 @@ class Batch:
         outs = len(self.circuit.outs([0] * self.circuit.meas))
         sums = [str(sum(row[k] for row in rows) % P) for k in range(outs)]
         return "".join(lines) + f"count {len(rows)}\naggregate {' '.join(sums)}\n"
+
+
+class Jobs:
+    """Measurements or encodings, from which a batch is made: the nonces go up from 0."""
+
+    def __init__(self, circuit, inputs, joint=(), query=(), shares=2):
+        self.circuit, self.inputs, self.joint, self.query, self.shares = circuit, inputs, joint, query, shares
+
+    def words(self, given):
+        """The words of a job: in each share s but share 0 every word is s."""
+        proofs = len(self.query)
+        part = self.circuit.meas + proofs * self.circuit.proof
+        words = [w % P for w in given] + [s for s in range(1, self.shares) for _ in range(part)]
+        for k in range(proofs):
+            words += own_seeds(self.circuit, 3 + k)
+        for k in range(proofs):
+            words += list(self.joint[k] if self.joint else []) + list(self.query[k])
+        return words
+
+    def content(self):
+        text = self.circuit.text.encode()
+        head = b"FLPTASKS" + little([1, self.shares, len(self.query), len(text), len(self.inputs)], 4)
+        return head + text + b"".join(nonce(k) + little(self.words(x), 8) for k, x in enumerate(self.inputs))
 
 
 # ---- the examples
@@ -482,26 +508,80 @@ BATCHES = {
 }
 
 
+# Each job file, with the name of the batch that `prove` makes of it.
+JOBS = {
+    "count": (Jobs(COUNT, [[1]], query=[[2]]), "accepted"),
+    "sum": (Jobs(SUM, [[5], [2]], query=[[1, 2, 3, 4, 5, 6, 7, 2]]), "sum"),
+    "sumvec": (Jobs(SUMVEC, [[5, 3], [1, 7]], joint=[[2, 3, 5]], query=[[2]]), "sumvec"),
+    "histogram": (Jobs(HISTOGRAM, [[2], [0]], joint=[[2, 3]], query=[[5, 7, 2]]), "histogram"),
+    "multihot": (Jobs(MULTIHOT, [[1, 0, 1, 0], [0, 0, 1, 0]], joint=[[2, 3, 5]], query=[[5, 7, 2]]), "multihot"),
+    "body": (Jobs(VOTE, [[1], [-1], [-1]], query=[[2]]), "body"),
+    "shares": (Jobs(HISTOGRAM, [[1]], joint=[[2, 3], [5, 7]], query=[[1, 2, 2], [3, 4, 3]], shares=3), "shares"),
+}
+
+# Each job file that is refused, with the line.
+REFUSED = {
+    "range": (Jobs(COUNT, [[1], [2]], query=[[2]]), 8, "flp: place 1: range 0 2\n"),
+    "weight": (Jobs(MULTIHOT, [[1, 1, 1, 0]], joint=[[2, 3, 5]], query=[[5, 7, 2]]), 8, "flp: place 0: weight 3\n"),
+    "check": (Jobs(RATED, [[3, 1], [2, 0]], query=[[1, 2, 3, 2, 2]]), 8, "flp: place 1: check 2 of proof 0\n"),
+    "word": (Jobs(COUNT, [[1]], query=[[P]]), 6, "flp: job: word 0 9\n"),
+}
+
+# What `explain` prints of a batch.
+EXPLAINED = {
+    "accepted": lines((0, "0 valid")),
+    "rejected": lines((0, "0 word 0 bound 0")),
+    "malformed": lines((0, "malformed 6"), (0, "0 valid")),
+    "false": lines((0, "0 word 0 bound 2"), (1, "0 word 0 bound 2"), (2, "0 word 0 bound 2")),
+    "checks": lines((0, "0 word 1 bound 1"), (1, "0 word 1 bound 1")),
+    "shares": lines((0, "0 valid"), (0, "1 valid")),
+}
+
+# What `prep --party 1` prints of a batch.
+PREPARED = {
+    "accepted": lines((0, "prep " + little([0, 1, 1, 7], 8).hex())),
+    "domain": lines((0, "domain 0 0")),
+}
+
+
 class Example:
     """A file, the words of the command on it, and the status, the output and the line that it must have."""
 
     def __init__(self, content, words, output, status=0, line=""):
-        self.content, self.words, self.output, self.status, self.line = content, words, output, status, line
+        self.content, self.words, self.status, self.line = content, words, status, line
+        self.output = output if isinstance(output, bytes) else output.encode()
 
 
-def examples():
-    files = {}
+def circuit_examples():
     names = ["meas", "joint", "prove", "query", "proof", "verifier", "outs"]
     for name, (circuit, numbers) in CIRCUITS.items():
         assert circuit.lengths() == numbers, name
         output = "".join(f"{n} {k}\n" for n, k in zip(names, numbers))
-        files[f"{name}.circuit"] = Example(circuit.text.encode() + b"\n", "lengths", output)
+        yield f"{name}.circuit", Example(circuit.text.encode() + b"\n", "lengths", output)
+
+
+def batch_examples():
     for name, (batch, text) in BATCHES.items():
         assert batch.text() == text, name
-        files[f"{name}.batch"] = Example(batch.content(), "verify --workers 1", text)
-    short = files["accepted.batch"].content[:-1]
-    files["truncated.batch"] = Example(short, "verify --workers 1", "", 6, "flp: batch: truncated 161 162\n")
-    return files
+        yield f"{name}.batch", Example(batch.content(), "verify --workers 1", text)
+    for name, text in EXPLAINED.items():
+        yield f"{name}.batch", Example(BATCHES[name][0].content(), "explain", text)
+    for name, text in PREPARED.items():
+        yield f"{name}.batch", Example(BATCHES[name][0].content(), "prep --party 1", text)
+    short = BATCHES["accepted"][0].content()[:-1]
+    yield "truncated.batch", Example(short, "verify --workers 1", "", 6, "flp: batch: truncated 161 162\n")
+
+
+def job_examples():
+    for name, (jobs, batch) in JOBS.items():
+        yield f"{name}.job", Example(jobs.content(), "prove", BATCHES[batch][0].content())
+    for name, (jobs, status, line) in REFUSED.items():
+        yield f"{name}.job", Example(jobs.content(), "prove", "", status, line)
+
+
+def examples():
+    """Names of files with what they must give; a file may be there more than once."""
+    return [*circuit_examples(), *batch_examples(), *job_examples()]
 
 
 def run(command, example):
@@ -509,7 +589,7 @@ def run(command, example):
     words = shlex.split(command) + example.words.split()
     done = subprocess.run(words, cwd=os.path.join(TOP, "crates", "flp"), input=example.content, capture_output=True)
     said = done.stderr.decode().endswith(example.line)
-    return done.returncode == example.status and done.stdout.decode() == example.output and said
+    return done.returncode == example.status and done.stdout == example.output and said
 
 
 def write(path, content):
@@ -525,14 +605,14 @@ def read(path):
 def main(words):
     folder = os.path.join(TOP, "examples")
     failed = []
-    for name, example in examples().items():
+    for name, example in examples():
         path = os.path.join(folder, name)
         if not words:
             write(path, example.content)
         elif words == ["--check"] and not (os.path.exists(path) and read(path) == example.content):
             failed.append(name)
         elif words[0] == "--run" and not run(words[1], example):
-            failed.append(name)
+            failed.append(f"{name} ({example.words})")
     for name in failed:
         print(f"{name} differs")
     return 1 if failed else 0
