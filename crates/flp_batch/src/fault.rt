@@ -6,19 +6,25 @@ ghost use Rattle.flp_batch.specs.declared.fault.EngineFault.TheVariants.{Memory 
 use flp_load::{CircuitFault, LoadFault};
 use flp_report::{BatchFault, ReadFault};
 use std::alloc::AllocError;
+use thiserror::Error;
 
 /// Why a walk through a batch ends early.
-#[derive(Clone, Copy, Debug, PartialEq, Eq)]
+#[derive(Clone, Copy, Debug, PartialEq, Eq, Error)]
 pub enum EngineFault {
     /// Want of memory.
+    #[error("no memory")]
     Memory,
     /// The input failed.
+    #[error("the input failed")]
     Read,
     /// The output failed.
+    #[error("the output failed")]
     Write,
     /// The input is no batch.
+    #[error("the input is no batch: {0:?}")]
     Batch(BatchFault),
     /// The text of the batch is no circuit's.
+    #[error("{0}")]
     Circuit(CircuitFault),
 }
 

@@ -11,17 +11,22 @@ use crate::lines::make_lines;
 use flp_io::{Sink, Source, put};
 use flp_load::CircuitFault;
 use std::alloc::Global;
+use thiserror::Error;
 
 /// Why `lengths` ends before its lines are written.
-#[derive(Debug, Clone, Copy, PartialEq, Eq)]
+#[derive(Debug, Clone, Copy, PartialEq, Eq, Error)]
 pub enum LengthsFault {
     /// No memory was left.
+    #[error("no memory")]
     Memory,
     /// The input failed.
+    #[error("the input failed")]
     Read,
     /// The output failed.
+    #[error("the output failed")]
     Write,
     /// The text is refused.
+    #[error("{0}")]
     Circuit(CircuitFault),
 }
 

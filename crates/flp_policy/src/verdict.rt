@@ -13,7 +13,7 @@ pub enum Verdict {
     InDomain { proof: u32, gadget: u32 },
     /// This word of the record is no word of the field.
     Malformed { word: u32 },
-    /// An earlier report has the same nonce.
+    /// An old claim, or an earlier report, has the same nonce.
     Replayed,
 }
 

@@ -7,7 +7,7 @@
 //!
 //! [`Worker::new`] alone takes memory.
 //!
-//! The way of a record is that of Prio3 in the VDAF draft of the IETF, with any number of proofs.
+//! The way of a record is after that of Prio3 in the VDAF draft of the IETF, with any number of proofs.
 #![tactic(auto)]
 
 mod load;
