@@ -171,7 +171,7 @@ verify-ended never one would input output errors (Err fault) status written stop
     (λ same. failed_in (ap Err same)) (λ same. failed_out (ap Err same)) line)
 
 -- nothing was taken
-takes-none : (limit : List ℕ → ℕ) (left : Option (List ℕ)) → ConsumesWithin limit left left
+pub takes-none : (limit : List ℕ → ℕ) (left : Option (List ℕ)) → ConsumesWithin limit left left
 takes-none limit None = tt
 takes-none limit (Some xs) = let none : 0 ≤ limit xs = omega arith in record { bytes = []; few = none; gone = Consumes-nil (Some xs) }
 

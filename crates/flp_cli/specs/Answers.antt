@@ -1,12 +1,17 @@
 -- What the program answers besides the text: the exit status, and the line on the error output.
-use Rattle.std.specs.Prelude.{ℕ, Bool, List, [], ◌∷◌, ◌==◌, if◌then◌else◌, codes}
+use Rattle.std.specs.Prelude.{ℕ, Bool, List, [], ◌∷◌, ◌++◌, ◌==◌, if◌then◌else◌, codes}
 use Rattle.std.specs.List.{list_any}
 use Rattle.flp_report.specs.declared.fault.BatchFault.{BatchFault}
 use Rattle.flp_report.specs.declared.fault.BatchFault.TheVariants as file
 use Rattle.flp_batch.specs.declared.fault.EngineFault.{EngineFault}
 use Rattle.flp_batch.specs.declared.fault.EngineFault.TheVariants as batch
 use Rattle.flp_lines.specs.Circuit.{circuit_line}
-use Rattle.flp_lines.specs.Batch.{batch_line}
+use Rattle.flp_lines.specs.Batch.{batch_line, job_line}
+use Rattle.flp_lines.specs.Pieces.{numbered, paired}
+use Rattle.flp_jobs.specs.declared.fault.PlaceFault.{PlaceFault}
+use Rattle.flp_jobs.specs.declared.fault.PlaceFault.TheVariants as place
+use Rattle.flp_jobs.specs.declared.fault.ProveFault.{ProveFault}
+use Rattle.flp_jobs.specs.declared.fault.ProveFault.TheVariants as prove
 use Rattle.flp_lengths.specs.declared.command.LengthsFault.{LengthsFault}
 use Rattle.flp_lengths.specs.declared.command.LengthsFault.TheVariants as lengths
 
@@ -16,7 +21,7 @@ is_among status statuses = list_any (λ s. s == status) statuses
 
 -- the exit statuses that there are
 abbrev pub is_status : ℕ → Bool
-is_status status = is_among status (0 ∷ 2 ∷ 3 ∷ 4 ∷ 5 ∷ 6 ∷ 7 ∷ [])
+is_status status = is_among status (0 ∷ 2 ∷ 3 ∷ 4 ∷ 5 ∷ 6 ∷ 7 ∷ 8 ∷ [])
 
 -- the lines of failures that no file explains
 abbrev pub memory_line : List ℕ
@@ -62,6 +67,34 @@ engine_line batch.Write = write_line
 engine_line (batch.Batch fault) = batch_line fault
 engine_line (batch.Circuit fault) = circuit_line fault
 
+-- the words of a bad place
+abbrev pub place_text : PlaceFault → List ℕ
+place_text (place.Range number value) = paired (codes "range ") number value
+place_text (place.Weight count) = numbered (codes "weight ") count
+place_text (place.Check check proof) = numbered (codes "check ") check ++ numbered (codes " of proof ") proof
+
+-- the line of a bad place
+abbrev pub place_line : ℕ → PlaceFault → List ℕ
+place_line place fault = numbered (codes "flp: place ") place ++ codes ": " ++ place_text fault ++ codes "\n"
+
+-- the exit status of each fault of `prove`
+abbrev pub prove_status : ProveFault → ℕ
+prove_status prove.Memory = 3
+prove_status prove.Read = 4
+prove_status prove.Write = 5
+prove_status (prove.File fault) = file_status fault
+prove_status (prove.Circuit fault) = 7
+prove_status (prove.Place place fault) = 8
+
+-- the line of each fault of `prove`
+abbrev pub prove_line : ProveFault → List ℕ
+prove_line prove.Memory = memory_line
+prove_line prove.Read = read_line
+prove_line prove.Write = write_line
+prove_line (prove.File fault) = job_line fault
+prove_line (prove.Circuit fault) = circuit_line fault
+prove_line (prove.Place place fault) = place_line place fault
+
 -- the exit status of each fault of `lengths`
 abbrev pub lengths_status : LengthsFault → ℕ
 lengths_status lengths.Memory = 3
@@ -76,7 +109,7 @@ lengths_line lengths.Read = read_line
 lengths_line lengths.Write = write_line
 lengths_line (lengths.Circuit fault) = circuit_line fault
 
--- the line of each status but 6 and 7, whose lines tell the fault of the batch and of the circuit
+-- the line of each status but 6, 7 and 8, whose lines tell the fault of the file, of the circuit and of the place
 abbrev pub line_for : ℕ → List ℕ
 line_for status =
     if status == 2 then usage_line

@@ -14,10 +14,14 @@ use Rattle.flp_batch.specs.File.{IsBatch, IsFault}
 use Rattle.flp_batch.specs.Batch.{TakesFew as TakesFewOfBatch}
 use Rattle.flp_batch.specs.Reply.{WritesText, StopsEarly}
 use Rattle.flp_verify.specs.Text.{lines_by}
+use Rattle.flp_jobs.specs.declared.fault.ProveFault.{ProveFault}
+use Rattle.flp_jobs.specs.Setting.{JobSetting}
+use Rattle.flp_jobs.specs.Reply.{IsProvable, IsRefusal, WritesBatch, StopsInBatch}
+use Rattle.flp_jobs.specs.Reply.{TakesFew as TakesFewOfJobs}
 use Rattle.flp_lines.specs.Circuit.{circuit_line}
 use Rattle.flp_lengths.specs.Reading.{TakesFew}
 use Rattle.flp_lengths.specs.Reply.{WritesLengths, StopsInLengths, RefusesText}
-use Rattle.flp_cli.specs.Answers.{is_among, batch_status, engine_line}
+use Rattle.flp_cli.specs.Answers.{is_among, batch_status, engine_line, prove_status, prove_line}
 use Rattle.flp_cli.specs.Reply.{Verifies, StopsLate}
 use Rattle.flp_cli.specs.Stream.{Stream, IsQuiet, Says}
 
@@ -62,6 +66,31 @@ pub record RunsLines (party : Option ℕ) (lines : Setting → List (List ℕ) �
       → (params : Option Params) (setting : Setting) → IsBatch party bytes params setting → (status ≡ 3) ⊎ (status ≡ 0)
   pub refuses : (bytes : List ℕ) → input.old ≡ Some bytes → IsQuiet input → IsQuiet output
       → (fault : EngineFault) → IsFault party bytes fault → (status ≡ 3) ⊎ (status ≡ batch_status fault)
+
+-- the file is refused by its first fault, or else by its least bad place, which the status and the line tell
+pub record RefusesJobs (input errors : Stream) (status : ℕ) : Type 0 where
+  pub fault : ProveFault
+  pub is : IfSome input.old (λ bytes. IsRefusal bytes fault)
+  pub status_is : status ≡ prove_status fault
+  pub says : Says errors (prove_line fault)
+
+-- a run of `prove`
+pub record RunsProve (input output errors : Stream) (status : ℕ) : Type 0 where
+  pub known : IsTrue (is_among status (0 ∷ 3 ∷ 4 ∷ 5 ∷ 6 ∷ 7 ∷ 8 ∷ []))
+  -- the batch, and that all was read
+  pub done : status ≡ 0 → WritesBatch input.old input.new output.old output.new
+  -- what was written where the run ended earlier: a prefix of the batch after a failed write, and else nothing
+  pub stopped : status ≡ 5 → StopsInBatch input.old input.new output.old output.new
+  pub kept : status ≢ 0 → status ≢ 5 → Keeps output.old output.new
+  -- the input is no job file, its text no circuit's, or a place is bad
+  pub refused : (status ≡ 6) ⊎ (status ≡ 7) ⊎ (status ≡ 8) → RefusesJobs input errors status
+  -- no more is asked for than the head's numbers give, and one byte to see the end
+  pub few : TakesFewOfJobs input.old input.new
+  -- where nothing failed, the bytes of the input alone decide the status, but for want of memory
+  pub complete : (bytes : List ℕ) → input.old ≡ Some bytes → IsQuiet input → IsQuiet output
+      → (setting : JobSetting) → IsProvable bytes setting → (status ≡ 3) ⊎ (status ≡ 0)
+  pub refuses : (bytes : List ℕ) → input.old ≡ Some bytes → IsQuiet input → IsQuiet output
+      → (fault : ProveFault) → IsRefusal bytes fault → (status ≡ 3) ⊎ (status ≡ prove_status fault)
 
 -- a run of `lengths`
 pub record RunsLengths (input output errors : Stream) (status : ℕ) : Type 0 where

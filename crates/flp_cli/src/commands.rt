@@ -13,13 +13,17 @@ ghost use Rattle.flp_prep.specs.Text.{lines_by as prepared_by};
 ghost use Rattle.flp_verify.specs.Text.{lines_by, text_by};
 ghost use Rattle.flp_lengths.specs.Reading.{TakesFew};
 ghost use Rattle.flp_lengths.specs.Reply.{WritesLengths, StopsInLengths, RefusesText};
-ghost use Rattle.flp_cli.specs.Answers.{is_status, engine_line, lengths_line, line_for};
+ghost use Rattle.flp_cli.specs.Answers.{is_status, batch_status, engine_line, prove_status, prove_line, lengths_line, line_for};
 ghost use Rattle.flp_cli.specs.Stream.{stream};
-ghost use Rattle.flp_cli.specs.Runs.{RunsVerify, RunsLines, RunsLengths};
+ghost use Rattle.flp_cli.specs.Runs.{RunsVerify, RunsLines, RunsProve, RunsLengths};
 
-use crate::answers::{batch_status, lengths_status, put_engine_fault, put_lengths_fault};
+use crate::answers::{
+    batch_status, lengths_status, prove_status, put_engine_fault, put_lengths_fault,
+    put_prove_fault,
+};
 use flp_explain::explain;
 use flp_io::{Sink, Source};
+use flp_jobs::{ProveFault, prove};
 use flp_lengths::{LengthsFault, lengths};
 use flp_prep::prep;
 use flp_verify::{EngineFault, verify};
@@ -34,7 +38,7 @@ fn finish<E: Sink>(errors: &mut E, ended: Result<(), EngineFault>) -> u8
     ensures had_job { result ≢ 2 }
     ensures read { result ≡ 4 → ended ≡ Err EngineFault.Read }
     ensures write { result ≡ 5 → ended ≡ Err EngineFault.Write }
-    ensures line { (Rose (E.faults errors.old) (E.faults errors.new) → ⊥) → result ≢ 6 → result ≢ 7
+    ensures line { (Rose (E.faults errors.old) (E.faults errors.new) → ⊥) → result ≢ 6 → result ≢ 7 → result ≢ 8
         → Appends (E.taken errors.old) (E.taken errors.new) (line_for result) }
 {
     match ended {
@@ -61,7 +65,7 @@ pub fn run_verify<S: Source, K: Sink, E: Sink>(
     ensures had_job { result ≢ 2 }
     ensures read { result ≡ 4 → Rose (S.faults input.old) (S.faults input.new) }
     ensures write { result ≡ 5 → Rose (K.faults output.old) (K.faults output.new) }
-    ensures line { (Rose (E.faults errors.old) (E.faults errors.new) → ⊥) → result ≢ 6 → result ≢ 7
+    ensures line { (Rose (E.faults errors.old) (E.faults errors.new) → ⊥) → result ≢ 6 → result ≢ 7 → result ≢ 8
         → Appends (E.taken errors.old) (E.taken errors.new) (line_for result) }
 {
     flp_batch::laws::one_answer();
@@ -84,7 +88,7 @@ pub fn run_prep<S: Source, K: Sink, E: Sink>(
     ensures had_job { result ≢ 2 }
     ensures read { result ≡ 4 → Rose (S.faults input.old) (S.faults input.new) }
     ensures write { result ≡ 5 → Rose (K.faults output.old) (K.faults output.new) }
-    ensures line { (Rose (E.faults errors.old) (E.faults errors.new) → ⊥) → result ≢ 6 → result ≢ 7
+    ensures line { (Rose (E.faults errors.old) (E.faults errors.new) → ⊥) → result ≢ 6 → result ≢ 7 → result ≢ 8
         → Appends (E.taken errors.old) (E.taken errors.new) (line_for result) }
 {
     flp_batch::laws::one_answer();
@@ -106,11 +110,54 @@ pub fn run_explain<S: Source, K: Sink, E: Sink>(
     ensures had_job { result ≢ 2 }
     ensures read { result ≡ 4 → Rose (S.faults input.old) (S.faults input.new) }
     ensures write { result ≡ 5 → Rose (K.faults output.old) (K.faults output.new) }
-    ensures line { (Rose (E.faults errors.old) (E.faults errors.new) → ⊥) → result ≢ 6 → result ≢ 7
+    ensures line { (Rose (E.faults errors.old) (E.faults errors.new) → ⊥) → result ≢ 6 → result ≢ 7 → result ≢ 8
         → Appends (E.taken errors.old) (E.taken errors.new) (line_for result) }
 {
     flp_batch::laws::one_answer();
     finish(errors, explain(alloc, input, output))
+}
+
+/// The status of `prove` that ended so, and the line on `errors` where it failed.
+fn finish_prove<E: Sink>(errors: &mut E, ended: Result<(), ProveFault>) -> u8
+    ensures status { MatchResult ended (λ _. result ≡ 0) (λ fault. result ≡ prove_status fault) }
+    ensures says { (Rose (E.faults errors.old) (E.faults errors.new) → ⊥) → MatchResult ended
+        (λ _. Keeps (E.taken errors.old) (E.taken errors.new)) (λ fault. Appends (E.taken errors.old) (E.taken errors.new) (prove_line fault)) }
+    ensures known { IsTrue (is_status result) }
+    ensures had_job { result ≢ 2 }
+    ensures read { result ≡ 4 → ended ≡ Err ProveFault.Read }
+    ensures write { result ≡ 5 → ended ≡ Err ProveFault.Write }
+    ensures line { (Rose (E.faults errors.old) (E.faults errors.new) → ⊥) → result ≢ 6 → result ≢ 7 → result ≢ 8
+        → Appends (E.taken errors.old) (E.taken errors.new) (line_for result) }
+{
+    match ended {
+        Ok(()) => 0,
+        Err(fault) => {
+            let _said = put_prove_fault(errors, fault);
+            prove_status(fault)
+        }
+    }
+}
+
+/// Runs `prove`, says on `errors` why where it fails, and gives the status.
+pub fn run_prove<S: Source, K: Sink, E: Sink>(
+    alloc: Global,
+    input: &mut S,
+    output: &mut K,
+    errors: &mut E,
+) -> u8
+    ensures runs { RunsProve
+        (stream (S.left input.old) (S.left input.new) (S.faults input.old) (S.faults input.new))
+        (stream (K.taken output.old) (K.taken output.new) (K.faults output.old) (K.faults output.new))
+        (stream (E.taken errors.old) (E.taken errors.new) (E.faults errors.old) (E.faults errors.new)) result }
+    ensures known { IsTrue (is_status result) }
+    ensures had_job { result ≢ 2 }
+    ensures read { result ≡ 4 → Rose (S.faults input.old) (S.faults input.new) }
+    ensures write { result ≡ 5 → Rose (K.faults output.old) (K.faults output.new) }
+    ensures line { (Rose (E.faults errors.old) (E.faults errors.new) → ⊥) → result ≢ 6 → result ≢ 7 → result ≢ 8
+        → Appends (E.taken errors.old) (E.taken errors.new) (line_for result) }
+{
+    flp_jobs::laws::one_answer();
+    finish_prove(errors, prove(alloc, input, output))
 }
 
 /// Does `lengths`, and says on `errors` why where it fails.
@@ -156,7 +203,7 @@ pub fn run_lengths<S: Source, K: Sink, E: Sink>(
     ensures had_job { result ≢ 2 }
     ensures read { result ≡ 4 → Rose (S.faults input.old) (S.faults input.new) }
     ensures write { result ≡ 5 → Rose (K.faults output.old) (K.faults output.new) }
-    ensures line { (Rose (E.faults errors.old) (E.faults errors.new) → ⊥) → result ≢ 6 → result ≢ 7
+    ensures line { (Rose (E.faults errors.old) (E.faults errors.new) → ⊥) → result ≢ 6 → result ≢ 7 → result ≢ 8
         → Appends (E.taken errors.old) (E.taken errors.new) (line_for result) }
 {
     flp_load::laws::one_answer();

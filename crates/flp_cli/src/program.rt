@@ -13,11 +13,12 @@ ghost use Rattle.flp_verdict.specs.Laws.{JudgesOnce, AcceptsHonest, SumsMeasurem
 ghost use Rattle.flp_prep.specs.Text.{lines_by as prepared_by};
 ghost use Rattle.flp_explain.specs.Text.{text_by as explained_by};
 ghost use Rattle.flp_explain.specs.Laws.{LimitsFalseReports};
+ghost use Rattle.flp_jobs.specs.Laws.{BatchesReadBack, RecordsAreHonest};
 ghost use Rattle.flp_cli.specs.Stream.{stream};
-ghost use Rattle.flp_cli.specs.Runs.{RunsVerify, RunsLines, RunsLengths};
+ghost use Rattle.flp_cli.specs.Runs.{RunsVerify, RunsLines, RunsProve, RunsLengths};
 
 use crate::answers::{put_memory, put_usage};
-use crate::commands::{run_explain, run_lengths, run_prep, run_verify};
+use crate::commands::{run_explain, run_lengths, run_prep, run_prove, run_verify};
 use crate::policy::Policy;
 use flp_io::{Sink, Source};
 use flp_pool::Gate;
@@ -28,7 +29,8 @@ use std::thread::Threads;
 /// Runs the program on the words of its command line, the program's own name first.
 ///
 /// `verify --workers N`, N from 1 to 16, reads a batch from `input` and writes its text to
-/// `output`; one thread serves every N. `lengths` reads a circuit text, of which it asks for at
+/// `output`; one thread serves every N. `prove` reads a job file and writes the batch that is made of
+/// it. `lengths` reads a circuit text, of which it asks for at
 /// most 65,537 bytes, and writes the lengths of the circuit. `prep --party K`, K from 0 to 15, reads a
 /// batch and writes for each report the verifier words of share K alone, or the line of `verify`
 /// where no proof decided. `explain` reads a batch and writes for each proof of each report the query
@@ -42,12 +44,13 @@ use std::thread::Threads;
 /// | 3 | want of memory |
 /// | 4 | the input failed |
 /// | 5 | the output failed |
-/// | 6 | the input is no batch |
+/// | 6 | the input is no batch, or no job file |
 /// | 7 | the circuit is refused; nothing was written |
+/// | 8 | a measurement or an encoding is refused; nothing was written |
 ///
 /// After 3, 4, 5, 6 and 7 the output of `verify` has taken a prefix of the lines of the reports that
 /// were read whole, or, where its own fault came later, of the text; after 5 the output of `lengths`
-/// has taken a prefix of its lines, and after every status but 0 that of `prep` and of `explain` a
+/// has taken a prefix of its lines and that of `prove` a prefix of the batch, and after every status but 0 that of `prep` and of `explain` a
 /// prefix of the lines of the reports that were read whole. The policies, fewer than
 /// 4,294,967,295, are dropped untold, and the gate is not entered.
 pub fn run<R: Threads + Sync, S: Source, K: Sink, E: Sink, G: Gate>(
@@ -66,6 +69,10 @@ pub fn run<R: Threads + Sync, S: Source, K: Sink, E: Sink, G: Gate>(
     // status says.
     ensures verify { (workers : ℕ) → job_in (map (λ w. w.now) words.now) ≡ Some (Job.Verify workers) → RunsVerify
         (λ more. map (λ p. would p more) policies.items)
+        (stream (S.left input.old) (S.left input.new) (S.faults input.old) (S.faults input.new))
+        (stream (K.taken output.old) (K.taken output.new) (K.faults output.old) (K.faults output.new))
+        (stream (E.taken errors.old) (E.taken errors.new) (E.faults errors.old) (E.faults errors.new)) result }
+    ensures prove { job_in (map (λ w. w.now) words.now) ≡ Some Job.Prove → RunsProve
         (stream (S.left input.old) (S.left input.new) (S.faults input.old) (S.faults input.new))
         (stream (K.taken output.old) (K.taken output.new) (K.faults output.old) (K.faults output.new))
         (stream (E.taken errors.old) (E.taken errors.new) (E.faults errors.old) (E.faults errors.new)) result }
@@ -95,6 +102,11 @@ pub fn run<R: Threads + Sync, S: Source, K: Sink, E: Sink, G: Gate>(
     ensures sums { (text : List ℕ) (params : Params) (program : Program) → IsLoaded text (Some params) program
         → (shape : Shape) (claims reports : List (List ℕ)) → SumsMeasurements program params shape claims reports }
 
+    // Laws of what `prove` writes: it is read as a batch of the same circuit, with a record for each
+    // job, which is an honest report of it; so the laws above speak of it.
+    ensures reads_back { BatchesReadBack }
+    ensures made_honestly { RecordsAreHonest }
+
     // Words without a job.
     ensures no_job { result ≡ 2 → job_in (map (λ w. w.now) words.now) ≡ None }
     ensures needs_job { job_in (map (λ w. w.now) words.now) ≡ None → (result ≡ 2) ⊎ (result ≡ 3) }
@@ -107,16 +119,19 @@ pub fn run<R: Threads + Sync, S: Source, K: Sink, E: Sink, G: Gate>(
     ensures write { result ≡ 5 → Rose (K.faults output.old) (K.faults output.new) }
 
     // The line on the error output, where it had no fault.
-    ensures line { (Rose (E.faults errors.old) (E.faults errors.new) → ⊥) → result ≢ 6 → result ≢ 7
+    ensures line { (Rose (E.faults errors.old) (E.faults errors.new) → ⊥) → result ≢ 6 → result ≢ 7 → result ≢ 8
         → Appends (E.taken errors.old) (E.taken errors.new) (line_for result) }
 {
     flp_verdict::laws::once();
     flp_verify::laws::honest();
     flp_explain::laws::false_reports();
     flp_verify::laws::sums();
+    flp_jobs::laws::reads_back();
+    flp_jobs::laws::records_are_honest();
     let _policies = policies;
     match job_of(alloc, words) {
         Ok(Some(Job::Verify(_))) => run_verify(alloc, input, output, errors),
+        Ok(Some(Job::Prove)) => run_prove(alloc, input, output, errors),
         Ok(Some(Job::Lengths)) => run_lengths(alloc, input, output, errors),
         Ok(Some(Job::Prep(party))) => run_prep(alloc, party, input, output, errors),
         Ok(Some(Job::Explain)) => run_explain(alloc, input, output, errors),

@@ -1,6 +1,7 @@
 use Rattle.std.proofs.Common.{◌≡◌, ◌∙◌}
 use Rattle.flp_prep.specs.Text.{lines_by}
 use Rattle.flp_cli.proofs.RunLemmas.{verify-unread, lines-for, lines-unread}
+use Rattle.flp_cli.proofs.ProveLemmas.{prove-unread}
 use Rattle.flp_cli.proofs.program.run.Goals as goal
 
 pub returns-in-Ok-Some-Verify-clause-verify : goal.returns-in-Ok-Some-Verify-clause-verify
@@ -25,3 +26,10 @@ returns-in-Ok-Some-Explain-clause-explain g c = λ is. c.run_explain.ensures.run
 -- no memory for the words
 pub returns-clause-explain : goal.returns-clause-explain
 returns-clause-explain g c = λ is. lines-unread _ _ _ _ _ _ _
+
+pub returns-in-Ok-Some-Prove-clause-prove : goal.returns-in-Ok-Some-Prove-clause-prove
+returns-in-Ok-Some-Prove-clause-prove g c = λ is. c.run_prove.ensures.runs
+
+-- no memory for the words
+pub returns-clause-prove : goal.returns-clause-prove
+returns-clause-prove g c = λ is. prove-unread _ _ _ _ _
