@@ -1,6 +1,6 @@
 -- A false report is accepted for few values of its weak word, since its proof is.
 use Rattle.std.proofs.Common.{ℕ, zero, suc, ◌≡◌, ◌+◌, ◌<◌, ◌≤◌, Bool, true, false, ◌&&◌, List, [], ◌∷◌, length, take, drop, map, refl, ap, ap₂, sym, subst, ◌∙◌, ⊎_elim, arith}
-use Rattle.std.specs.Prelude.{slice_set, Option, None, Some, All}
+use Rattle.std.specs.Prelude.{◌↔◌, slice_set, Option, None, Some, All}
 use Rattle.std.specs.List.{list_all, range_with_len}
 use Rattle.std.proofs.lemmas.List.{take_all}
 use Rattle.std.proofs.Math.Nat.{eq-or-lt_of_le}
@@ -106,6 +106,14 @@ length-queried program shape bytes proof fits inside =
     let room : own_word shape proof + (shape.joint + shape.query) ≤ words_of shape = own-inside shape proof inside in
     let count : length (words_in shape bytes) ≡ words_of shape = length-words_in shape bytes in
     length-words_at (own_word shape proof + shape.joint) shape.query (words_in shape bytes) (omega (arith, room, count)) ∙ fits.query
+
+-- there is none exactly where the encoding is valid
+pub none_is_valid : (program : Program) (shape : Shape) (bytes : List ℕ) (proof : ℕ)
+    → (weak_in program shape bytes proof ≡ None) ↔ IsValid program (unshared_encoding shape (words_in shape bytes)) (joint_words shape (words_in shape bytes) proof)
+unfolding weak_in
+none_is_valid program shape bytes proof =
+    let words : List ℕ = words_in shape bytes in
+    valid_has_none program (unshared_encoding shape words) (joint_words shape words proof) (unshared_proof shape words proof)
 
 limited : (program : Program) (shape : Shape) (bytes : List ℕ) (proof : ℕ) (found : Option Weak) → IsBounded program → IsShapeOf program shape
     → IsFalseReport program shape bytes proof → weak_in program shape bytes proof ≡ found → IsLimited program shape bytes proof

@@ -70,7 +70,7 @@ part-around start count number value ws inside =
     ∙ take-set-lt count (drop start ws) number value inside
 
 -- what is the same of each number
-map-same : (f g : ℕ → List ℕ) (start count : ℕ) → ((k : ℕ) → k < start + count → f k ≡ g k) → map f (range_with_len start count) ≡ map g (range_with_len start count)
+pub map-same : (f g : ℕ → List ℕ) (start count : ℕ) → ((k : ℕ) → k < start + count → f k ≡ g k) → map f (range_with_len start count) ≡ map g (range_with_len start count)
 map-same f g start zero same = refl
 map-same f g start (suc count) same =
     ap₂ (λ (x : List ℕ) (l : List (List ℕ)). x ∷ l) (same start (omega arith))

@@ -3,3 +3,9 @@
 pub mod Found
 -- how many values of it let a false record through
 pub mod Laws
+-- the text
+pub mod Text
+-- the sum of the shares
+pub mod Unshared
+-- what explains one record after another
+pub mod Explaining

@@ -1,12 +1,23 @@
-//! What a weak word says of the verdict on a record, the contract of a function that does nothing. The definitions are
-//! in `specs/Laws.antt`.
-ghost use Rattle.std.specs.Prelude.{ℕ, List, Option};
+//! The laws of weak words of records, each the contract of a function that does nothing. The definitions are in
+//! `specs/Laws.antt`.
+ghost use Rattle.std.specs.Prelude.{◌≡◌, ◌↔◌, ℕ, List, Option, None};
 ghost use Rattle.flp_syntax.specs.Tree.{Program};
 ghost use Rattle.flp_syntax.specs.declared.syntax.Params.{Params};
+ghost use Rattle.flp_meaning.specs.Circuit.{IsValid};
 ghost use Rattle.flp_report.specs.declared.shape.Shape.{Shape};
+ghost use Rattle.flp_report.specs.Record.{words_in};
 ghost use Rattle.flp_load.specs.Loaded.{IsLoaded};
+ghost use Rattle.flp_worker.specs.Parts.{joint_words, unshared_encoding};
 ghost use Rattle.flp_worker.specs.Worker.{IsShapeOf};
+ghost use Rattle.flp_explain.specs.Found.{weak_in};
 ghost use Rattle.flp_explain.specs.Laws.{LimitsFalseReports};
+
+/// A proof has no weak word exactly where the unshared encoding is valid under its joint words, that is, where each
+/// check is 0.
+pub fn valid_has_none()
+    ensures { (program : Program) (shape : Shape) (bytes : List ℕ) (proof : ℕ)
+        → (weak_in program shape bytes proof ≡ None) ↔ IsValid program (unshared_encoding shape (words_in shape bytes)) (joint_words shape (words_in shape bytes) proof) }
+{}
 
 /// A record of words of the field, whose unshared encoding fails under the joint words of one of its proofs, is
 /// accepted for few values of one query word of that proof, the other words fixed and its nonce new: for at most as
