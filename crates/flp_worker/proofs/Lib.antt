@@ -5,6 +5,8 @@ pub mod PrefixLemmas
 pub mod PartLemmas
 -- the first point in a domain
 pub mod InsideLemmas
+-- how many public values there are
+pub mod PublicLemmas
 -- the sum of the shares' verifiers decides
 pub mod SumLemmas
 -- where the verifier of a share stands

@@ -61,12 +61,13 @@ length-for program shape words proof =
     length-flat (verifier_of_share program shape words proof) (lengths_of program).verifier shape.shares (length-verifier program shape words proof)
 
 -- what a query makes of these parts of a record's words
-pub own-verifier : (program : Program) (shape : Shape) (words : List ℕ) (proof share : ℕ) (x joint own query : List ℕ) → x ≡ share_encoding shape words share
-    → joint ≡ joint_words shape words proof → own ≡ share_proof shape words proof share → query ≡ query_words shape words proof
-    → verifier_words program x joint own query (share_unit shape.shares) ≡ verifier_of_share program shape words proof share
-own-verifier program shape words proof share x joint own query is_x is_joint is_own is_query =
+pub own-verifier : (program : Program) (shape : Shape) (words : List ℕ) (proof share : ℕ) (x own query : List ℕ) → x ≡ share_encoding shape words share
+    → own ≡ share_proof shape words proof share → query ≡ query_words shape words proof
+    → verifier_words program x (joint_words shape words proof) own query (share_unit shape.shares) ≡ verifier_of_share program shape words proof share
+own-verifier program shape words proof share x own query is_x is_own is_query =
+    let joint : List ℕ = joint_words shape words proof in
     ap₂ (λ (a b : List ℕ). verifier_words program a joint b query (share_unit shape.shares)) is_x is_own
-    ∙ ap₂ (λ (a b : List ℕ). verifier_words program (share_encoding shape words share) a (share_proof shape words proof share) b (share_unit shape.shares)) is_joint is_query
+    ∙ ap (λ (q : List ℕ). verifier_words program (share_encoding shape words share) joint (share_proof shape words proof share) q (share_unit shape.shares)) is_query
 
 -- where it stands among those of all shares and proofs
 pub verifier-stands : (program : Program) (shape : Shape) (words : List ℕ) (share proof : ℕ) → share < shape.shares → proof < shape.proofs

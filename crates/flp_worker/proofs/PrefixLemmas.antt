@@ -21,6 +21,12 @@ part-fits one count size below =
     let more : one + 1 ≤ count = omega arith in
     omega (arith, one-more one size, mul-le-mul_right size more)
 
+-- likewise where the size is known by another name
+pub part-within : (one count size part held : ℕ) → one < count → size ≡ part → held ≡ count * part → one * size + size ≤ held
+part-within one count size part held below same all =
+    let many : count * size ≡ count * part = ap (λ (n : ℕ). count * n) same in
+    omega (arith, part-fits one count size below, many, all)
+
 -- how long a part is that is lent from one place up to another
 pub length-part : (parts : List ℕ) (start size : ℕ) → start + size ≤ length parts → length (take (start + size - start) (drop start parts)) ≡ size
 length-part parts start size fits =

@@ -11,24 +11,22 @@ use crate::words::Words;
 use flp_field::Fe;
 use flp_plan::{Plan, laws};
 
-/// Writes the outs of the unshared encoding to `row`. `publics` and `encoding` have room for the plan's public
-/// values and for an encoding.
+/// Writes the outs of the unshared encoding to `row`. `publics` are the plan's public values under some joint words,
+/// none of which enters the outs, and `encoding` has room for an encoding.
 pub(crate) fn write_row(
     plan: &Plan,
     words: &Words,
-    publics: &mut [Fe],
+    publics: &[Fe],
     encoding: &mut [Fe],
     row: &mut [Fe],
 )
     requires fits { IsShapeOf plan.now.circuit words.now.shape }
-    requires publics { length publics.old ≡ length plan.now.steps }
+    requires publics { (joint : List ℕ) × (publics.now ≡ publics_of plan.now joint) }
     requires encoding { length encoding.old ≡ words.now.shape.meas }
     requires row { length row.old ≡ (lengths_of plan.now.circuit).outs }
     ensures { row.new ≡ outs_of plan.now.circuit (unshared_encoding words.now.shape words.now.all.now) }
 {
     write_encoding(words, encoding);
-    // No joint word enters the outs.
-    plan.publics(words.joint(0), publics);
     write_outs(plan, publics, encoding, row);
 }
 

@@ -34,6 +34,7 @@ pub struct Worker {
     sum: Vec<Fe>,
     /// The unshared encoding.
     encoding: Vec<Fe>,
+    /// The public values of the proof that was looked at last.
     publics: Vec<Fe>,
     row: Vec<Fe>,
 }
@@ -98,6 +99,7 @@ impl Worker {
             plan,
             &words,
             &mut self.scratch,
+            &mut self.publics,
             &mut self.verifiers,
             &mut self.sum,
         ) {
@@ -107,7 +109,7 @@ impl Worker {
                 write_row(
                     plan,
                     &words,
-                    &mut self.publics,
+                    &self.publics,
                     &mut self.encoding,
                     &mut self.row,
                 );

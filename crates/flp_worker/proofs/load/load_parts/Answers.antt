@@ -5,16 +5,9 @@ use Rattle.flp_report.specs.declared.record.Record.{Record}
 use Rattle.flp_report.specs.Shape.{part_of, words_of}
 use Rattle.flp_report.specs.Record.{record_of, shape_of, words_in}
 use Rattle.flp_report.specs.Words.{words}
-use Rattle.flp_worker.proofs.PrefixLemmas.{part-fits, length-part, prefix-more}
+use Rattle.flp_worker.proofs.PrefixLemmas.{part-fits, part-within, length-part, prefix-more}
 use Rattle.flp_worker.proofs.PartLemmas.{words-part, length-words_in, read-share}
 use Rattle.flp_worker.proofs.load.load_parts.Goals as goal
-
--- a part ends where all do, or before
-inside : (share shares size part held : ℕ) → share < shares → size ≡ part → held ≡ shares * part → share * size + size ≤ held
-inside share shares size part held below same all =
-    let fits : share * size + size ≤ shares * size = part-fits share shares size below in
-    let many : shares * size ≡ shares * part = ap (λ (n : ℕ). shares * n) same in
-    omega (arith, fits, many, all)
 
 -- the record has this share
 known : (given : Record) (shape : Shape) (share : ℕ) → shape_of given ≡ shape → share < shape.shares → share < (shape_of given).shares
@@ -23,7 +16,7 @@ known given shape share same below = subst (λ (s : Shape). share < s.shares) (s
 pub slice_bounds-load-end : goal.slice_bounds-load-end
 slice_bounds-load-end c =
     let fits : c.loop-share.share * c.part-size.result + c.part-size.result ≤ length c.loop-share.parts =
-    inside c.loop-share.share c.args.shape.now.shares c.part-size.result (part_of c.args.shape.now) (length c.loop-share.parts) c.loop-share-test.true c.part-size.ensures.words (omega (arith, c.loop-share.auto.parts, c.requires.room)) in
+    part-within c.loop-share.share c.args.shape.now.shares c.part-size.result (part_of c.args.shape.now) (length c.loop-share.parts) c.loop-share-test.true c.part-size.ensures.words (omega (arith, c.loop-share.auto.parts, c.requires.room)) in
     search rules
 
 pub load-requires-clause-below : goal.load-requires-clause-below
@@ -32,7 +25,7 @@ load-requires-clause-below c =
     let start : ℕ = c.loop-share.share * c.part-size.result in
     let n : ℕ = length (take (start + c.part-size.result - start) (drop start c.loop-share.parts)) in
     let fits : c.loop-share.share * c.part-size.result + c.part-size.result ≤ length c.loop-share.parts =
-    inside c.loop-share.share c.args.shape.now.shares c.part-size.result (part_of c.args.shape.now) (length c.loop-share.parts) c.loop-share-test.true c.part-size.ensures.words (omega (arith, c.loop-share.auto.parts, c.requires.room)) in
+    part-within c.loop-share.share c.args.shape.now.shares c.part-size.result (part_of c.args.shape.now) (length c.loop-share.parts) c.loop-share-test.true c.part-size.ensures.words (omega (arith, c.loop-share.auto.parts, c.requires.room)) in
     words-part all (words n c.share.result.now) (c.loop-share.share * part_of c.args.shape.now) (part_of c.args.shape.now) c.requires.below
     (read-share c.args.shape.now (shape_of c.args.given.now) (record_of c.args.given.now) c.share.result.now c.loop-share.share n c.requires.shape c.share.ensures
     (length-part c.loop-share.parts start c.part-size.result fits ∙ c.part-size.ensures.words)
@@ -46,7 +39,7 @@ loop-share-preserved c =
     let start : ℕ = c.loop-share.share * c.part-size.result in
     let n : ℕ = length (take (start + c.part-size.result - start) (drop start c.loop-share.parts)) in
     let fits : c.loop-share.share * c.part-size.result + c.part-size.result ≤ length c.loop-share.parts =
-    inside c.loop-share.share c.args.shape.now.shares c.part-size.result (part_of c.args.shape.now) (length c.loop-share.parts) c.loop-share-test.true c.part-size.ensures.words (omega (arith, c.loop-share.auto.parts, c.requires.room)) in
+    part-within c.loop-share.share c.args.shape.now.shares c.part-size.result (part_of c.args.shape.now) (length c.loop-share.parts) c.loop-share-test.true c.part-size.ensures.words (omega (arith, c.loop-share.auto.parts, c.requires.room)) in
     let own : c.load.new.out ≡ take part (drop (k * part) all) =
     c.load.ensures
     ∙ read-share c.args.shape.now (shape_of c.args.given.now) (record_of c.args.given.now) c.share.result.now c.loop-share.share n c.requires.shape c.share.ensures

@@ -1,6 +1,7 @@
 use Rattle.std.proofs.Common.{ℕ, ◌≡◌, ◌+◌, ◌*◌, ◌<◌, ◌≤◌, ◌&&◌, Bool, List, length, refl, ap, ap₂, sym, ◌∙◌, below_more, rules, arith}
 use Rattle.std.specs.Prelude.{None}
 use Rattle.flp_plan.specs.Counted.{lengths_of}
+use Rattle.flp_worker.specs.Parts.{joint_words}
 use Rattle.flp_worker.specs.Verdict.{proof_holds, gadget_inside, verifiers_for}
 use Rattle.flp_worker.proofs.PrefixLemmas.{parts-fit, flat-more}
 use Rattle.flp_worker.proofs.PlaceLemmas.{length-for}
@@ -69,6 +70,7 @@ loop-proof-preserved c =
       outside =
           below_more (λ (j : ℕ). gadget_inside c.args.plan.now.circuit c.args.words.now.shape c.args.words.now.all.now j ≡ None) k
           c.loop-proof.invariant.outside c.in-Ok.ensures.outside;
+      publics = λ some. (joint_words c.args.words.now.shape c.args.words.now.all.now k, c.in-Ok.ensures.publics);
       verifiers =
           flat-more f c.loop-proof.verifiers c.verify_proof.new.verifiers k (shares * length c.args.sum.now) (shares * n) _
           (ap (λ (m : ℕ). shares * m) c.requires.sum) long (omega (arith, fits)) c.loop-proof.invariant.verifiers c.in-Ok.ensures.verifiers;
@@ -78,3 +80,6 @@ pub returns-clause-outside : goal.returns-clause-outside
 returns-clause-outside c =
     none-named (gadget_inside c.args.plan.now.circuit c.args.words.now.shape c.args.words.now.all.now) 0 c.args.words.now.shape.proofs
     (λ (k : ℕ) (below : k < 0 + c.args.words.now.shape.proofs). c.loop-proof.invariant.outside k (omega arith))
+
+pub returns-clause-publics : goal.returns-clause-publics
+returns-clause-publics c = c.loop-proof.invariant.publics (omega (arith, c.requires.fits.some_proofs))

@@ -47,7 +47,7 @@ returns-in-Ok-true-clause-row c accepted =
     let shape : c.self.inside.shape ≡ c.args.shape.now = ap (λ (w : Working). w.shape) c.self.view_is ∙ c.requires.made.same_shape in
     let are : c.deref.result.now ≡ words_in c.args.shape.now (record_of c.args.given.now) =
     c.deref.ensures.value ∙ held-words c.self.inside.words c.args.shape.now c.self.inside.shape (record_of c.args.given.now) c.load_record.new.words shape c.self.invariant.for_words c.load_record.ensures in
-    let kept : length c.write_row.new.row ≡ vec_len c.self.inside.row = c.write_row.auto.row ∙ c.deref_mut-in-Ok-true-3.ensures.len in
+    let kept : length c.write_row.new.row ≡ vec_len c.self.inside.row = c.write_row.auto.row ∙ c.deref_mut-in-Ok-true-2.ensures.len in
     with_items_is c.self.inside.row c.write_row.new.row kept
     ∙ outs-are c.args.plan.now.circuit c.args.shape.now (record_of c.args.given.now) c.deref.result.now c.write_row.new.row are c.write_row.ensures
 
@@ -58,7 +58,7 @@ returns-in-Ok-true-clause-verifiers c verdict share proof below inside =
     c.in-Ok-true.ensures.again ∙ ap (λ (w : Working). w.sizes) c.self.view_is ∙ c.requires.made.same_sizes in
     let are : c.deref.result.now ≡ words_in c.args.shape.now (record_of c.args.given.now) =
     c.deref.ensures.value ∙ held-words c.self.inside.words c.args.shape.now c.self.inside.shape (record_of c.args.given.now) c.load_record.new.words shape c.self.invariant.for_words c.load_record.ensures in
-    let kept : length c.verify_proofs.new.verifiers ≡ vec_len c.self.inside.verifiers = c.verify_proofs.auto.verifiers ∙ c.deref_mut-2.ensures.len in
+    let kept : length c.verify_proofs.new.verifiers ≡ vec_len c.self.inside.verifiers = c.verify_proofs.auto.verifiers ∙ c.deref_mut-3.ensures.len in
     kept-is c.args.plan.now c.args.shape.now c.self.inside.shape c.verify_proofs.new.scratch (with_items c.self.inside.verifiers c.verify_proofs.new.verifiers).items
     (record_of c.args.given.now) c.deref.result.now share proof shape sizes
     (with_items_is c.self.inside.verifiers c.verify_proofs.new.verifiers kept ∙ c.in-Ok-true.ensures.verifiers) are below inside
@@ -79,7 +79,7 @@ returns-in-Ok-false-clause-verifiers c verdict share proof below inside =
     c.in-Ok-false.ensures.again ∙ ap (λ (w : Working). w.sizes) c.self.view_is ∙ c.requires.made.same_sizes in
     let are : c.deref.result.now ≡ words_in c.args.shape.now (record_of c.args.given.now) =
     c.deref.ensures.value ∙ held-words c.self.inside.words c.args.shape.now c.self.inside.shape (record_of c.args.given.now) c.load_record.new.words shape c.self.invariant.for_words c.load_record.ensures in
-    let kept : length c.verify_proofs.new.verifiers ≡ vec_len c.self.inside.verifiers = c.verify_proofs.auto.verifiers ∙ c.deref_mut-2.ensures.len in
+    let kept : length c.verify_proofs.new.verifiers ≡ vec_len c.self.inside.verifiers = c.verify_proofs.auto.verifiers ∙ c.deref_mut-3.ensures.len in
     kept-is c.args.plan.now c.args.shape.now c.self.inside.shape c.verify_proofs.new.scratch (with_items c.self.inside.verifiers c.verify_proofs.new.verifiers).items
     (record_of c.args.given.now) c.deref.result.now share proof shape sizes
     (with_items_is c.self.inside.verifiers c.verify_proofs.new.verifiers kept ∙ c.in-Ok-false.ensures.verifiers) are below inside
