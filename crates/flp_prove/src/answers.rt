@@ -12,13 +12,7 @@ use flp_plan::{Plan, laws};
 /// Writes the values of the calls, one after another, to the front of `answers`.
 ///
 /// `inputs` has room for the inputs of any gadget.
-pub fn write_answers(
-    plan: &Plan,
-    publics: &[Fe],
-    x: &[Fe],
-    inputs: &mut [Fe],
-    answers: &mut [Fe],
-)
+pub fn write_answers(plan: &Plan, publics: &[Fe], x: &[Fe], inputs: &mut [Fe], answers: &mut [Fe])
     requires publics { length publics.now ≡ length plan.now.steps }
     requires x { length x.now ≡ plan.now.circuit.meas }
     requires inputs { length inputs.old ≡ 1024 }

@@ -1,8 +1,8 @@
 //! Proofs that were computed by hand. A word -1 is written as p - 1.
 use super::*;
 use flp_field::{Fe, MODULUS};
-use flp_lang::{Circuit, check, parse};
-use flp_plan::{Plan, compile};
+use flp_load::{Loaded, load_circuit};
+use flp_plan::Plan;
 use std::alloc::Global;
 use std::test::Fail;
 
@@ -17,12 +17,12 @@ const CUBE: &[u8] =
 /// The root of unity of size 4: its square is 2^96, which is -1.
 const A: u64 = 1 << 48;
 
-/// The plan of a circuit.
-fn plan_of(alloc: Global, text: &[u8]) -> Result<Plan, Fail> {
-    let Circuit::Body(body) = parse(alloc, text)? else {
-        return Err("not a body".into());
-    };
-    Ok(compile(alloc, check(alloc, body)?)?)
+/// A circuit with its plan.
+fn circuit(alloc: Global, text: &[u8]) -> Result<Loaded, Fail> {
+    match load_circuit(alloc, text) {
+        Ok(loaded) => Ok(loaded),
+        Err(_) => Err("no circuit".into()),
+    }
 }
 
 /// The words of these values.
@@ -49,14 +49,14 @@ fn proof_of(alloc: Global, plan: &Plan, x: u64, seeds: [u64; 2]) -> Result<Vec<F
 #[test]
 fn of_one_call(rt: HostRuntime) -> Result<(), Fail> {
     laws::serves_alike();
-    let plan = plan_of(rt.alloc(), SQUARE)?;
+    let loaded = circuit(rt.alloc(), SQUARE)?;
     for (x, seeds, proof) in [
         // the wires are 2 + t and 3 + 2*t
         (1, [3, 5], [3, 5, 6, 7, 2]),
         // 3 + t and 4 + 2*t
         (2, [4, 6], [4, 6, 12, 10, 2]),
     ] {
-        let written = proof_of(rt.alloc(), &plan, x, seeds)?;
+        let written = proof_of(rt.alloc(), &loaded.plan, x, seeds)?;
         assert_eq!(rt; written[..], words(proof)?[..]);
     }
     Ok(())
@@ -64,7 +64,7 @@ fn of_one_call(rt: HostRuntime) -> Result<(), Fail> {
 
 #[test]
 fn of_a_call_inside_a_call(rt: HostRuntime) -> Result<(), Fail> {
-    let plan = plan_of(rt.alloc(), CUBE)?;
+    let loaded = circuit(rt.alloc(), CUBE)?;
     for (x, seeds, proof) in [
         // 6 - (3 + a)*t + 4*t^2 + (a - 3)*t^3, through 4, 4, 16 and 0, and
         // 4 + (1 - a)*t + 2*t^2 + (1 + a)*t^3, through 8, 4, 4 and 0
@@ -86,7 +86,7 @@ fn of_a_call_inside_a_call(rt: HostRuntime) -> Result<(), Fail> {
         // 1 + t + t^2 + t^3, twice
         (0, [4, 4], [4, 4, 1, 2, 3, 4, 3, 2, 1]),
     ] {
-        let written = proof_of(rt.alloc(), &plan, x, seeds)?;
+        let written = proof_of(rt.alloc(), &loaded.plan, x, seeds)?;
         assert_eq!(rt; written[..], words(proof)?[..]);
     }
     Ok(())

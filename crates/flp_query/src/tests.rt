@@ -5,8 +5,8 @@ ghost use Rattle.flp_query.specs.Sizes.{sizes_of};
 
 use super::*;
 use flp_field::{Fe, MODULUS};
-use flp_lang::{Circuit, check, parse};
-use flp_plan::{Lengths, Plan, compile};
+use flp_load::{Loaded, load_circuit};
+use flp_plan::{Lengths, Plan};
 use std::alloc::Global;
 use std::test::Fail;
 
@@ -23,12 +23,12 @@ const LENGTHS: Lengths = Lengths {
     outs: 1,
 };
 
-/// The plan of the circuit.
-fn count(alloc: Global) -> Result<Plan, Fail> {
-    let Circuit::Body(body) = parse(alloc, COUNT)? else {
-        return Err("not a body".into());
-    };
-    Ok(compile(alloc, check(alloc, body)?)?)
+/// The circuit with its plan.
+fn count(alloc: Global) -> Result<Loaded, Fail> {
+    match load_circuit(alloc, COUNT) {
+        Ok(loaded) => Ok(loaded),
+        Err(_) => Err("no circuit".into()),
+    }
 }
 
 /// The words of these values.
@@ -85,7 +85,8 @@ fn verifier_of(
 
 #[test]
 fn unshared(rt: HostRuntime) -> Result<(), Fail> {
-    let plan = count(rt.alloc())?;
+    let loaded = count(rt.alloc())?;
+    let plan = &loaded.plan;
     // the word, its proof, the point, and the verifier
     let table = [
         (1, [3, 5, 6, 7, 2], 2, [0, 4, 7, 28]),
@@ -97,7 +98,7 @@ fn unshared(rt: HostRuntime) -> Result<(), Fail> {
         (4, [6, 8, 24, 21, 1], 4, [0, 9, 14, 124]),
     ];
     for (x, proof, point, verifier) in table {
-        let written = verifier_of(rt.alloc(), &plan, x, proof, point)?;
+        let written = verifier_of(rt.alloc(), plan, x, proof, point)?;
         assert_eq!(rt; written, words(verifier)?);
     }
     Ok(())
@@ -105,17 +106,18 @@ fn unshared(rt: HostRuntime) -> Result<(), Fail> {
 
 #[test]
 fn of_a_share(rt: HostRuntime) -> Result<(), Fail> {
-    let plan = count(rt.alloc())?;
-    let mut scratch = Scratch::new(rt.alloc(), &plan)?;
-    let answer = queried(&mut scratch, &plan, 1, [1; 5], 2, 2)?;
+    let loaded = count(rt.alloc())?;
+    let plan = &loaded.plan;
+    let mut scratch = Scratch::new(rt.alloc(), plan)?;
+    let answer = queried(&mut scratch, plan, 1, [1; 5], 2, 2)?;
     assert_eq!(rt; answer, (Ok(()), words([0, 1, 1, 7])?));
     // -1 lies in the domain
-    let answer = queried(&mut scratch, &plan, 1, [1; 5], MODULUS - 1, 2)?;
+    let answer = queried(&mut scratch, plan, 1, [1; 5], MODULUS - 1, 2)?;
     assert_eq!(rt; answer, (Err(InDomain { gadget: 0 }), [Fe::ONE; 4]));
     laws::serves_alike();
     laws::units();
-    laws::shares(&plan);
-    laws::honest(&plan);
+    laws::shares(plan);
+    laws::honest(plan);
     Ok(())
 }
 
@@ -129,7 +131,8 @@ fn decided(plan: &Plan, verifier: [u64; 4]) -> Result<bool, Fail> {
 
 #[test]
 fn decisions(rt: HostRuntime) -> Result<(), Fail> {
-    let plan = count(rt.alloc())?;
+    let loaded = count(rt.alloc())?;
+    let plan = &loaded.plan;
     for (verifier, taken) in [
         ([0, 4, 7, 28], true),
         ([0, 8, 12, 96], true),
@@ -138,7 +141,7 @@ fn decisions(rt: HostRuntime) -> Result<(), Fail> {
         ([1, 5, 9, 54], false),
         ([0, 9, 14, 124], false),
     ] {
-        assert_eq!(rt; decided(&plan, verifier)?, taken);
+        assert_eq!(rt; decided(plan, verifier)?, taken);
     }
     Ok(())
 }
