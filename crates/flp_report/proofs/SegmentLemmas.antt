@@ -5,8 +5,8 @@ use Rattle.std.proofs.Math.Nat.{mul-le-mul_right}
 use Rattle.std.proofs.lemmas.List.{length-take-le}
 use Rattle.flp_report.specs.declared.shape.Shape.{Shape}
 use Rattle.flp_report.specs.declared.segment.Segment.{Segment}
-use Rattle.flp_report.specs.Shape.{bytes_of, IsCountShape}
-use Rattle.flp_report.specs.Segment.{shape_in, used_in, held_in, record_in, records_in}
+use Rattle.flp_report.specs.Shape.{bytes_of}
+use Rattle.flp_report.specs.Segment.{used_in, held_in, record_in, records_in}
 use Rattle.flp_report.specs.Pieces.{pieces, IsCut}
 use Rattle.flp_report.proofs.PiecesLemmas.{pieces-append, slice_get-pieces, IsCut-pieces}
 
