@@ -16,6 +16,8 @@
 mod checks;
 pub mod laws;
 mod lies;
+#[cfg(test)]
+mod tests;
 mod word;
 
 pub use word::{Weak, weak_word};
