@@ -1,8 +1,7 @@
 //! Weak words of proofs that were made by hand, and which of their values are accepted.
 use crate::weak_word;
 use flp_field::{Fe, MODULUS};
-use flp_lang::{Circuit, check, parse};
-use flp_plan::{Plan, compile};
+use flp_load::{Loaded, load_circuit};
 use flp_query::{Scratch, decide};
 use std::alloc::Global;
 use std::test::Fail;
@@ -107,10 +106,10 @@ const CASES: [Case; 6] = [
     },
 ];
 
-/// A plan, and an encoding with its joint words and its proof.
+/// A circuit, and an encoding with its joint words and its proof.
 #[derive(Drop)]
 struct Report {
-    plan: Plan,
+    circuit: Loaded,
     x: Vec<Fe>,
     joint: Vec<Fe>,
     proof: Vec<Fe>,
@@ -125,11 +124,11 @@ fn words(alloc: Global, values: &[u64]) -> Result<Vec<Fe>, Fail> {
 }
 
 fn report_of(alloc: Global, case: &Case) -> Result<Report, Fail> {
-    let Circuit::Body(body) = parse(alloc, case.text.as_bytes())? else {
-        return Err("not a body".into());
+    let Ok(circuit) = load_circuit(alloc, case.text.as_bytes()) else {
+        return Err("no circuit".into());
     };
     Ok(Report {
-        plan: compile(alloc, check(alloc, body)?)?,
+        circuit,
         x: words(alloc, case.x)?,
         joint: words(alloc, case.joint)?,
         proof: words(alloc, case.proof)?,
@@ -137,19 +136,25 @@ fn report_of(alloc: Global, case: &Case) -> Result<Report, Fail> {
 }
 
 fn weak(alloc: Global, report: &Report) -> Result<Option<(u32, u64)>, Fail> {
-    let lengths = report.plan.lengths();
+    let lengths = report.circuit.plan.lengths();
     if report.x.len() != lengths.meas as usize
         || report.joint.len() != lengths.joint as usize
         || report.proof.len() != lengths.proof as usize
     {
         return Err("other lengths".into());
     }
-    let found = weak_word(alloc, &report.plan, &report.x, &report.joint, &report.proof)?;
+    let found = weak_word(
+        alloc,
+        &report.circuit.plan,
+        &report.x,
+        &report.joint,
+        &report.proof,
+    )?;
     Ok(found.map(|weak| (weak.word, weak.bound)))
 }
 
 fn is_accepted(alloc: Global, report: &Report, query: &[Fe]) -> Result<bool, Fail> {
-    let lengths = report.plan.lengths();
+    let lengths = report.circuit.plan.lengths();
     if report.x.len() != lengths.meas as usize
         || report.joint.len() != lengths.joint as usize
         || report.proof.len() != lengths.proof as usize
@@ -158,9 +163,9 @@ fn is_accepted(alloc: Global, report: &Report, query: &[Fe]) -> Result<bool, Fai
         return Err("other lengths".into());
     }
     let mut verifier = vec![in alloc; Fe::ZERO; lengths.verifier as usize]?;
-    let mut scratch = Scratch::new(alloc, &report.plan)?;
+    let mut scratch = Scratch::new(alloc, &report.circuit.plan)?;
     match scratch.query(
-        &report.plan,
+        &report.circuit.plan,
         &report.x,
         &report.proof,
         &report.joint,
@@ -168,7 +173,7 @@ fn is_accepted(alloc: Global, report: &Report, query: &[Fe]) -> Result<bool, Fai
         1,
         &mut verifier,
     ) {
-        Ok(()) => Ok(decide(&report.plan, &verifier)),
+        Ok(()) => Ok(decide(&report.circuit.plan, &verifier)),
         Err(_) => Ok(false),
     }
 }
