@@ -1,5 +1,5 @@
 -- A false report is accepted for few values of its weak word, since its proof is.
-use Rattle.std.proofs.Common.{ℕ, zero, suc, ◌≡◌, ◌+◌, ◌<◌, ◌≤◌, Bool, true, false, ◌&&◌, List, [], ◌∷◌, length, take, drop, map, refl, ap, ap₂, sym, subst, ◌∙◌, ⊎_elim, arith}
+use Rattle.std.proofs.Common.{ℕ, zero, suc, ◌≡◌, ◌+◌, ◌<◌, ◌≤◌, Bool, true, false, ◌&&◌, List, length, map, refl, ap, ap₂, sym, subst, ◌∙◌, ⊎_elim, arith}
 use Rattle.std.specs.Prelude.{◌↔◌, slice_set, Option, None, Some, All}
 use Rattle.std.specs.List.{list_all, range_with_len}
 use Rattle.std.proofs.lemmas.List.{take_all}
@@ -13,12 +13,12 @@ use Rattle.flp_meaning.specs.ProofLaws.{IsBounded}
 use Rattle.flp_meaning.specs.Verifier.{accepts}
 use Rattle.flp_meaning.proofs.PartLemmas.{length-words_at}
 use Rattle.flp_report.specs.declared.shape.Shape.{Shape}
-use Rattle.flp_report.specs.Shape.{words_of, bytes_of}
+use Rattle.flp_report.specs.Shape.{words_of}
 use Rattle.flp_report.specs.Record.{words_in, own_word}
 use Rattle.flp_report.specs.Words.{bad_word_in}
 use Rattle.flp_policy.specs.declared.verdict.Verdict.TheVariants.{Accepted}
 use Rattle.flp_weak.specs.declared.word.Weak.{Weak}
-use Rattle.flp_weak.specs.AtMost.{AtMost, AcceptsWith, Bounded}
+use Rattle.flp_weak.specs.AtMost.{AcceptsWith, Bounded}
 use Rattle.flp_weak.specs.Laws.{IsProof, IsLow}
 use Rattle.flp_weak.proofs.CountLemmas.{at_most-harder}
 use Rattle.flp_weak.proofs.WeakLemmas.{valid_has_none, weak_is_bounded, bound_is_low}
@@ -26,7 +26,7 @@ use Rattle.flp_worker.specs.Parts.{share_numbers, share_proof, joint_words, quer
 use Rattle.flp_worker.specs.Verdict.{verdict_of, verdict_by, first_inside, proof_holds, all_hold}
 use Rattle.flp_worker.specs.Worker.{IsShapeOf}
 use Rattle.flp_worker.proofs.PartLemmas.{length-words_in, own-inside, words-part}
-use Rattle.flp_explain.specs.Found.{weak_among, weak_in}
+use Rattle.flp_explain.specs.Found.{weak_in}
 use Rattle.flp_explain.specs.Laws.{query_word, with_query_word, AcceptsValue, IsFalseReport, IsLimited, LimitsFalseReports}
 use Rattle.flp_explain.proofs.ReplacedLemmas.{words-replaced, encoding-kept, proof-kept, joint-kept, query-replaced}
 

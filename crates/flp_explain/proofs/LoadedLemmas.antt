@@ -1,11 +1,10 @@
 -- A circuit that a text is loaded as has a gadget, and is within the limits on gadgets and their calls.
-use Rattle.std.proofs.Common.{◌≡◌, ℕ, ◌+◌, ◌<◌, ◌≤◌, List, [], ◌∷◌, length, Option, None, Some, sym, subst, arith}
+use Rattle.std.proofs.Common.{ℕ, ◌≤◌, List, [], ◌∷◌, length, Option, None, Some, sym, subst, arith}
 use Rattle.flp_syntax.specs.declared.syntax.Params.{Params}
 use Rattle.flp_syntax.specs.declared.token.Token.{Token}
 use Rattle.flp_syntax.specs.Tree.{Text, Program, standard, program}
 use Rattle.flp_syntax.specs.WellFormed.{HasOne}
 use Rattle.flp_lang.specs.Grammar.{IsBody, a_body, IsCircuit, a_standard, a_program}
-use Rattle.flp_lang.specs.Parsed.{IsParsed}
 use Rattle.flp_meaning.specs.ProofLaws.{IsBounded}
 use Rattle.flp_circuits.specs.Standard.{standard_program}
 use Rattle.flp_circuits.proofs.WellLemmas.{standard-well}

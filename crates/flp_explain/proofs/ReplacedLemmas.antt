@@ -1,13 +1,13 @@
 -- A record with another query word: what is read of it, and which of its parts are as they were.
-use Rattle.std.proofs.Common.{ℕ, zero, suc, ◌≡◌, ◌+◌, ◌-◌, ◌*◌, ◌^◌, ◌<◌, ◌≤◌, List, [], ◌∷◌, ◌++◌, length, take, drop, map, get_or, refl, ap, ap₂, sym, subst, ◌∙◌, arith}
+use Rattle.std.proofs.Common.{ℕ, zero, suc, ◌≡◌, ◌+◌, ◌-◌, ◌*◌, ◌^◌, ◌<◌, ◌≤◌, List, [], ◌∷◌, ◌++◌, length, take, drop, map, refl, ap, ap₂, sym, ◌∙◌, arith}
 use Rattle.std.specs.Prelude.{slice_set, All}
 use Rattle.std.specs.List.{range_with_len}
 use Rattle.std.proofs.lemmas.List.{length-take, drop_at, length-set, drop-set-add, take-set-le}
-use Rattle.std.proofs.lemmas.List.Elements.{All-head, All-tail, All-weaker, All-set}
+use Rattle.std.proofs.lemmas.List.Elements.{All-head, All-tail, All-set}
 use Rattle.std.proofs.Math.Seq.{take-set-lt}
 use Rattle.byteorder.specs.Endian.{little_bytes, little_number}
 use Rattle.byteorder.specs.Numbers.{little_number-reads_back}
-use Rattle.flp_field.specs.Word.{modulus, IsWord, AreWords}
+use Rattle.flp_field.specs.Word.{IsWord}
 use Rattle.flp_field.specs.Sums.{sum_of_lists}
 use Rattle.flp_meaning.specs.Proof.{words_at}
 use Rattle.flp_report.specs.declared.shape.Shape.{Shape}
@@ -15,9 +15,9 @@ use Rattle.flp_report.specs.Shape.{part_of, words_of, bytes_of}
 use Rattle.flp_report.specs.Record.{nonce_in, words_in, own_word}
 use Rattle.flp_report.specs.Words.{words}
 use Rattle.flp_report.specs.Layout.{word_bytes, record_bytes}
-use Rattle.flp_worker.specs.Parts.{share_numbers, share_encoding, share_proof, joint_words, query_words, unshared_encoding, unshared_proof}
+use Rattle.flp_worker.specs.Parts.{share_encoding, share_proof, joint_words, query_words, unshared_encoding, unshared_proof}
 use Rattle.flp_worker.proofs.PrefixLemmas.{part-fits}
-use Rattle.flp_worker.proofs.PartLemmas.{length-words_in, own-inside}
+use Rattle.flp_worker.proofs.PartLemmas.{length-words_in}
 use Rattle.flp_explain.specs.Laws.{query_word, with_query_word}
 
 -- ---- words that are written are read again

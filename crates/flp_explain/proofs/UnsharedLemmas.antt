@@ -1,7 +1,7 @@
 -- The sum of the words of all shares, and the unshared encoding and proofs as its parts.
-use Rattle.std.proofs.Common.{ℕ, ◌≡◌, ◌+◌, ◌-◌, ◌*◌, ◌%◌, ◌<◌, ◌≤◌, List, [], ◌∷◌, length, get_or, take, drop, map, refl, ap, ap₂, sym, ◌∙◌, arith}
+use Rattle.std.proofs.Common.{ℕ, ◌≡◌, ◌+◌, ◌*◌, ◌%◌, ◌<◌, ◌≤◌, List, [], ◌∷◌, length, get_or, drop, map, refl, ap, ap₂, sym, ◌∙◌, arith}
 use Rattle.std.specs.Prelude.{Option}
-use Rattle.std.specs.List.{range_with_len, sum_by}
+use Rattle.std.specs.List.{range_with_len}
 use Rattle.std.proofs.lemmas.List.{get_or-take, get_or-drop}
 use Rattle.std.proofs.lemmas.List.FromFn.{sum_by-map-range_with_len_more}
 use Rattle.flp_field.specs.Word.{modulus, word_sum}
@@ -15,7 +15,7 @@ use Rattle.flp_report.specs.Shape.{part_of}
 use Rattle.flp_report.specs.Record.{words_in}
 use Rattle.flp_weak.specs.declared.word.Weak.{Weak}
 use Rattle.flp_weak.specs.WeakWord.{weak_of}
-use Rattle.flp_worker.specs.Parts.{share_numbers, share_encoding, share_proof, joint_words, unshared_encoding, unshared_proof}
+use Rattle.flp_worker.specs.Parts.{share_numbers, share_encoding, joint_words, unshared_encoding, unshared_proof}
 use Rattle.flp_worker.proofs.PrefixLemmas.{part-fits}
 use Rattle.flp_explain.specs.Found.{weak_in}
 use Rattle.flp_explain.specs.Unshared.{share_part, unshared_part}

@@ -50,13 +50,67 @@ const TWO_BUCKETS: &[u64] = &[
 ];
 
 /// A record: the words of share 0, and the joint words and query words of the proofs.
-type Given<'a> = (&'a [u64], &'a [u64]);
+type Given = (&'static [u64], &'static [u64]);
 
 /// What is shown, the number of proofs, the circuit, the records, and what is written.
-type Case<'a> = (&'a str, u32, &'a [u8], &'a [Given<'a>], &'a [u8]);
+type Case = (
+    &'static str,
+    u64,
+    &'static [u8],
+    &'static [Given],
+    &'static [u8],
+);
 
-fn push_number(bytes: &mut Vec<u8>, number: u32) -> Result<(), AllocError> {
-    bytes.extend_from_slice(&number.to_le_bytes())?;
+const CASES: [Case; 6] = [
+    (
+        "an honest report",
+        1,
+        COUNT,
+        &[(ONE, &[2])],
+        b"000102030405060708090a0b0c0d0e0f 0 valid\n",
+    ),
+    (
+        "a gadget that lies",
+        1,
+        COUNT,
+        &[(FOUR, &[2])],
+        b"000102030405060708090a0b0c0d0e0f 0 word 0 bound 2\n",
+    ),
+    (
+        "an honest proof of a false encoding",
+        1,
+        COUNT,
+        &[(TWO, &[2])],
+        b"000102030405060708090a0b0c0d0e0f 0 word 0 bound 0\n",
+    ),
+    (
+        "the second of two checks fails",
+        1,
+        HISTOGRAM,
+        &[(TWO_BUCKETS, &[2, 3, 1, 1, 2])],
+        b"000102030405060708090a0b0c0d0e0f 0 word 1 bound 1\n",
+    ),
+    (
+        "a malformed report, and an honest one with its nonce",
+        1,
+        COUNT,
+        &[(MALFORMED, &[2]), (ONE, &[2])],
+        b"000102030405060708090a0b0c0d0e0f malformed 0\n\
+            000102030405060708090a0b0c0d0e0f 0 valid\n",
+    ),
+    (
+        "a false second proof of a valid encoding",
+        2,
+        COUNT,
+        &[(TWICE, &[2, 3])],
+        b"000102030405060708090a0b0c0d0e0f 0 valid\n\
+            000102030405060708090a0b0c0d0e0f 1 valid\n",
+    ),
+];
+
+fn push_number(bytes: &mut Vec<u8>, number: u64) -> Result<(), AllocError> {
+    let digits = number.to_le_bytes();
+    bytes.extend_from_slice(&digits[..4])?;
     Ok(())
 }
 
@@ -68,10 +122,10 @@ fn push_words(bytes: &mut Vec<u8>, words: &[u64]) -> Result<(), AllocError> {
 }
 
 fn push_record(bytes: &mut Vec<u8>, given: &Given) -> Result<(), AllocError> {
-    let (first, own) = given;
+    let (first, own) = *given;
     bytes.extend_from_slice(&NONCE)?;
     push_words(bytes, first)?;
-    for _ in 0..first.len() {
+    for _ in first {
         push_words(bytes, &[1])?;
     }
     push_words(bytes, own)
@@ -80,15 +134,15 @@ fn push_record(bytes: &mut Vec<u8>, given: &Given) -> Result<(), AllocError> {
 /// A batch without old claims.
 fn batch(
     alloc: Global,
-    proofs: u32,
+    proofs: u64,
     text: &[u8],
     records: &[Given],
 ) -> Result<Vec<u8>, AllocError> {
     let mut bytes = b"FLPBATCH\x01\0\0\0\x02\0\0\0".to_vec(alloc)?;
     push_number(&mut bytes, proofs)?;
-    push_number(&mut bytes, text.len() as u32)?;
+    push_number(&mut bytes, text.len() as u64)?;
     push_number(&mut bytes, 0)?;
-    push_number(&mut bytes, records.len() as u32)?;
+    push_number(&mut bytes, records.len() as u64)?;
     bytes.extend_from_slice(text)?;
     for given in records {
         push_record(&mut bytes, given)?;
@@ -98,59 +152,7 @@ fn batch(
 
 #[test]
 fn lines_of_each_proof(rt: HostRuntime) -> Result<(), Fail> {
-    let honest: [Given; 1] = [(ONE, &[2])];
-    let lying: [Given; 1] = [(FOUR, &[2])];
-    let false_encoding: [Given; 1] = [(TWO, &[2])];
-    let buckets: [Given; 1] = [(TWO_BUCKETS, &[2, 3, 1, 1, 2])];
-    let malformed: [Given; 2] = [(MALFORMED, &[2]), (ONE, &[2])];
-    let twice: [Given; 1] = [(TWICE, &[2, 3])];
-    let cases: [Case; 6] = [
-        (
-            "an honest report",
-            1,
-            COUNT,
-            &honest,
-            b"000102030405060708090a0b0c0d0e0f 0 valid\n",
-        ),
-        (
-            "a gadget that lies",
-            1,
-            COUNT,
-            &lying,
-            b"000102030405060708090a0b0c0d0e0f 0 word 0 bound 2\n",
-        ),
-        (
-            "an honest proof of a false encoding",
-            1,
-            COUNT,
-            &false_encoding,
-            b"000102030405060708090a0b0c0d0e0f 0 word 0 bound 0\n",
-        ),
-        (
-            "the second of two checks fails",
-            1,
-            HISTOGRAM,
-            &buckets,
-            b"000102030405060708090a0b0c0d0e0f 0 word 1 bound 1\n",
-        ),
-        (
-            "a malformed report, and an honest one with its nonce",
-            1,
-            COUNT,
-            &malformed,
-            b"000102030405060708090a0b0c0d0e0f malformed 0\n\
-                000102030405060708090a0b0c0d0e0f 0 valid\n",
-        ),
-        (
-            "a false second proof of a valid encoding",
-            2,
-            COUNT,
-            &twice,
-            b"000102030405060708090a0b0c0d0e0f 0 valid\n\
-                000102030405060708090a0b0c0d0e0f 1 valid\n",
-        ),
-    ];
-    for (name, proofs, text, records, written) in cases {
+    for (name, proofs, text, records, written) in CASES {
         let bytes = batch(rt.alloc(), proofs, text, records)?;
         let mut input = MemorySource::new(bytes, 4096, Vec::new(rt.alloc()));
         let mut output = MemorySink::new(rt.alloc(), 4096, Vec::new(rt.alloc()));

@@ -1,4 +1,4 @@
-use Rattle.std.proofs.Common.{ℕ, Option, None, List, inl}
+use Rattle.std.proofs.Common.{ℕ, Option, None, List}
 use Rattle.std.specs.Prelude.{IfSome}
 use Rattle.std.proofs.KnownBytes.{Keeps-refl}
 use Rattle.flp_io.proofs.ReadLemmas.{ConsumesSome-of}

@@ -1,4 +1,4 @@
-use Rattle.std.proofs.Common.{ℕ, List, ap₂, ◌∙◌}
+use Rattle.std.proofs.Common.{ℕ, List, ap₂}
 use Rattle.std.specs.Prelude.{Option}
 use Rattle.flp_report.specs.Record.{record_of}
 use Rattle.flp_weak.specs.declared.word.Weak.{Weak}

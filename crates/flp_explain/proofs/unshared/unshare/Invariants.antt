@@ -1,4 +1,4 @@
-use Rattle.std.proofs.Common.{ℕ, ◌≡◌, ◌%◌, ◌<◌, length, get_or, map}
+use Rattle.std.proofs.Common.{ℕ, ◌≡◌, ◌%◌, ◌<◌, get_or, map}
 use Rattle.std.specs.List.{range_with_len}
 use Rattle.flp_field.specs.Word.{modulus}
 use Rattle.flp_field.proofs.ListSums.{column}

@@ -1,4 +1,4 @@
-use Rattle.std.proofs.Common.{ℕ, ◌≡◌, List}
+use Rattle.std.proofs.Common.{◌≡◌}
 use Rattle.std.specs.Prelude.{None, Some}
 use Rattle.flp_report.specs.Record.{record_of, shape_of, words_in}
 use Rattle.flp_report.specs.Words.{bad_word_in}
