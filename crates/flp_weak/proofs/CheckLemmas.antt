@@ -1,10 +1,10 @@
 -- Checks that fail: where no gadget lies, a word that combines a failing check is accepted at one value, and a check that stands alone at none.
-use Rattle.std.proofs.Common.{ℕ, zero, suc, ◌≡◌, ◌≢◌, ◌+◌, ◌*◌, ◌%◌, ◌<◌, ◌≤◌, Bool, true, false, cond, List, [], ◌∷◌, length, map, get_or, set, refl, ap, sym, subst, ◌∙◌, arith, ⊎_elim, eqb, ltb}
-use Rattle.std.specs.Prelude.{not, slice_index, if◌then◌else◌}
-use Rattle.std.proofs.lemmas.Bool.{false≢true, cases_eq, eq-eqb, ltb-true, ltb-false}
+use Rattle.std.proofs.Common.{ℕ, zero, suc, ◌≡◌, ◌≢◌, ◌+◌, ◌*◌, ◌%◌, ◌<◌, ◌≤◌, Bool, true, false, cond, List, [], ◌∷◌, length, map, set, refl, ap, sym, ◌∙◌, arith, ⊎_elim, eqb, ltb}
+use Rattle.std.specs.Prelude.{not, slice_index}
+use Rattle.std.proofs.lemmas.Bool.{false≢true, cases_eq, eq-eqb, ltb-false}
 use Rattle.std.proofs.lemmas.List.Elements.{All-append, All-cons, All-nil}
 use Rattle.flp_field.specs.Word.{modulus, IsWord, AreWords}
-use Rattle.flp_field.proofs.Congruence.{Same, same_cancel, mod_word, word_mod}
+use Rattle.flp_field.proofs.Congruence.{same_cancel, mod_word, word_mod}
 use Rattle.flp_field.proofs.ProductLemmas.{cancelled}
 use Rattle.flp_syntax.specs.Tree.{Statement, check, out, each, Statements, no_stmts, stmt_on, Declaration, Program}
 use Rattle.flp_syntax.specs.Sorts.{is_shared}
@@ -12,11 +12,11 @@ use Rattle.flp_syntax.specs.Scope.{Scope, inside, index_value, turns}
 use Rattle.flp_meaning.specs.Meaning.{Run, Results, Reading, counted, meaning, performed, statement_of, statements_of}
 use Rattle.flp_meaning.specs.Circuit.{checks_of, direct}
 use Rattle.flp_meaning.specs.Gadgets.{check_count}
-use Rattle.flp_meaning.specs.Lengths.{lengths_of, check_words}
+use Rattle.flp_meaning.specs.Lengths.{check_words}
 use Rattle.flp_meaning.specs.Proof.{proved}
 use Rattle.flp_meaning.specs.Verifier.{combined, check_of}
-use Rattle.flp_weak.specs.AtMost.{AtMost, AcceptsWith, Bounded}
-use Rattle.flp_weak.specs.WeakWord.{check_fails, weak_check}
+use Rattle.flp_weak.specs.AtMost.{AcceptsWith, Bounded}
+use Rattle.flp_weak.specs.WeakWord.{check_fails}
 use Rattle.flp_weak.proofs.CountLemmas.{at_most_one, at_most_none}
 use Rattle.flp_weak.proofs.LieLemmas.{accepted-holds}
 

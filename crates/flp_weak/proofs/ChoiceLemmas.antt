@@ -1,9 +1,8 @@
 -- Choices for the weak words of several proofs.
-use Rattle.std.proofs.Common.{ℕ, ◌≡◌, List, [], ◌∷◌, refl, arith}
-use Rattle.std.specs.Prelude.{All}
+use Rattle.std.proofs.Common.{ℕ, ◌≡◌, List, [], ◌∷◌, refl}
 use Rattle.std.proofs.lemmas.List.Elements.{All-head, All-tail}
 use Rattle.flp_syntax.specs.Tree.{Program}
-use Rattle.flp_weak.specs.AtMost.{AtMost, AcceptsWith}
+use Rattle.flp_weak.specs.AtMost.{AcceptsWith}
 use Rattle.flp_weak.specs.Laws.{WeakIsBounded, FewChoices, Challenged, IsFalse, IsAccepted, product_of_bounds}
 use Rattle.flp_weak.proofs.CountLemmas.{at_most_one, at_most-harder, at_most_lists, HeadAndTail}
 

@@ -4,11 +4,9 @@ use Rattle.std.proofs.Common.{ℕ, ◌≡◌, ◌≢◌, ◌+◌, ◌-◌, ◌*�
 use Rattle.std.specs.Prelude.{AllPairs, Some, not, slice_index}
 use Rattle.std.specs.List.{range_with_len, slice_get}
 use Rattle.std.proofs.Math.Nat.{pow-le-pow_right}
-use Rattle.std.proofs.lemmas.Bool.{false≢true}
 use Rattle.std.proofs.lemmas.Nat.{mul-le}
 use Rattle.std.proofs.lemmas.Option.{get_or_from_slice_get}
 use Rattle.std.proofs.lemmas.List.FromFn.{length-range_with_len, get_or-range_with_len}
-use Rattle.flp_field.specs.Word.{modulus}
 use Rattle.flp_poly.specs.Polynomial.{value_at}
 use Rattle.flp_gadget.specs.KindTree.{KindTree, value_of}
 use Rattle.flp_gadget.proofs.FormulaLemmas.{words-formula}

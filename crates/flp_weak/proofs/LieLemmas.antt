@@ -1,6 +1,6 @@
 -- Gadgets that lie: where one does, its point is accepted at few words.
-use Rattle.std.proofs.Common.{ℕ, zero, suc, ◌≡◌, ◌≢◌, ◌+◌, ◌-◌, ◌*◌, ◌<◌, ◌≤◌, Bool, true, false, List, [], ◌∷◌, length, map, take, drop, get_or, set, refl, ap, ap₂, sym, subst, ◌∙◌, arith, get_or-set_same}
-use Rattle.std.specs.Prelude.{not, nat_eq, slice_index, All, Option, None, Some}
+use Rattle.std.proofs.Common.{ℕ, ◌≡◌, ◌≢◌, ◌+◌, ◌-◌, ◌*◌, ◌<◌, ◌≤◌, Bool, true, false, List, length, drop, get_or, set, refl, ap, sym, subst, ◌∙◌, arith, get_or-set_same}
+use Rattle.std.specs.Prelude.{not, nat_eq, Option, None, Some}
 use Rattle.std.specs.Cmp.Lexicographic.{pointwise}
 use Rattle.std.specs.List.{range_with_len, sum_by}
 use Rattle.std.proofs.lemmas.Bool.{false≢true}
@@ -11,22 +11,21 @@ use Rattle.flp_field.specs.Word.{IsWord, AreWords}
 use Rattle.flp_poly.specs.Polynomial.{value_at}
 use Rattle.flp_poly.specs.Interpolation.{interpolated}
 use Rattle.flp_poly.proofs.Interpolation.{length-interpolated}
-use Rattle.flp_gadget.specs.KindTree.{formula_of}
 use Rattle.flp_gadget.proofs.FormulaLemmas.{length-formula, words-formula}
 use Rattle.flp_syntax.specs.Tree.{Program}
 use Rattle.flp_meaning.specs.Meaning.{Call}
 use Rattle.flp_meaning.specs.Circuit.{kind_of, calls_of}
 use Rattle.flp_meaning.specs.Gadgets.{gadgets_of, arity_of, degree_of, size_of, log_of}
 use Rattle.flp_meaning.specs.Lengths.{lengths_of, start_of, check_words, coefficient_count, proof_part}
-use Rattle.flp_meaning.specs.Wires.{wire_values, wires_of}
-use Rattle.flp_meaning.specs.Proof.{words_at, seeds_in, polynomial_in, formula_in, wires_in, proved, IsTrueOf}
-use Rattle.flp_meaning.specs.Verifier.{Answer, answer_from, gadget_in_domain, verifier_words, is_taken, accepts, point_of}
+use Rattle.flp_meaning.specs.Wires.{wire_values}
+use Rattle.flp_meaning.specs.Proof.{seeds_in, polynomial_in, formula_in, wires_in, proved, IsTrueOf}
+use Rattle.flp_meaning.specs.Verifier.{answer_from, gadget_in_domain, verifier_words, is_taken, accepts, point_of}
 use Rattle.flp_meaning.specs.ProofLaws.{IsBounded, Holds}
 use Rattle.flp_meaning.proofs.PartLemmas.{part_inside, length-words_at}
 use Rattle.flp_meaning.proofs.WireLemmas.{length-wires, length-wire_values}
 use Rattle.flp_meaning.proofs.Decisions.{decisions_mean}
-use Rattle.flp_weak.specs.AtMost.{AtMost, AcceptsWith, Bounded}
-use Rattle.flp_weak.specs.WeakWord.{gadget_lies, weak_point}
+use Rattle.flp_weak.specs.AtMost.{AcceptsWith, Bounded}
+use Rattle.flp_weak.specs.WeakWord.{gadget_lies}
 use Rattle.flp_weak.specs.Laws.{IsProof}
 use Rattle.flp_weak.proofs.CountLemmas.{at_most-harder}
 use Rattle.flp_weak.proofs.RootLemmas.{AgreeAt, few_agree}

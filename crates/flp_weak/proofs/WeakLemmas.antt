@@ -1,15 +1,15 @@
 -- Which word is weak, and that it is accepted at few values.
-use Rattle.std.proofs.Common.{ℕ, ◌≡◌, ◌≢◌, ◌+◌, ◌-◌, ◌*◌, ◌<◌, ◌≤◌, Bool, true, false, cond, List, [], length, get_or, refl, ap, sym, subst, ◌∙◌, arith, eqb, ltb}
-use Rattle.std.specs.Prelude.{not, slice_index, Option, None, Some, IfSome, All}
+use Rattle.std.proofs.Common.{ℕ, ◌≡◌, ◌+◌, ◌-◌, ◌*◌, ◌<◌, ◌≤◌, Bool, true, false, cond, List, length, refl, ap, sym, subst, arith, eqb, ltb}
+use Rattle.std.specs.Prelude.{not, slice_index, Option, None, Some, IfSome}
 use Rattle.std.specs.Option.{unwrap_or}
 use Rattle.std.proofs.lemmas.Option.{none-some}
-use Rattle.std.proofs.lemmas.Bool.{false≢true, eqb-true, eq-eqb}
+use Rattle.std.proofs.lemmas.Bool.{false≢true, eqb-true}
 use Rattle.std.proofs.lemmas.List.Elements.{All-from_get_or}
 use Rattle.flp_syntax.specs.Tree.{Program}
 use Rattle.flp_meaning.specs.Meaning.{Meant, Results}
-use Rattle.flp_meaning.specs.Circuit.{circuit_of, checks_of, direct, IsValid}
+use Rattle.flp_meaning.specs.Circuit.{checks_of, direct, IsValid}
 use Rattle.flp_meaning.specs.Gadgets.{degree_of, size_of, check_count}
-use Rattle.flp_meaning.specs.Lengths.{lengths_of, check_words}
+use Rattle.flp_meaning.specs.Lengths.{check_words}
 use Rattle.flp_meaning.specs.Proof.{proved}
 use Rattle.flp_meaning.specs.ProofLaws.{IsBounded, IsFirst}
 use Rattle.flp_meaning.proofs.Fixed.{checks_are_fixed}

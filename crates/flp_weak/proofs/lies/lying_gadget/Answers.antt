@@ -1,4 +1,4 @@
-use Rattle.std.proofs.Common.{ℕ, ◌∙◌, length, sym, arith}
+use Rattle.std.proofs.Common.{◌∙◌, length, sym, arith}
 use Rattle.flp_query.proofs.DomainLemmas.{first-here, first-more}
 use Rattle.flp_weak.specs.WeakWord.{gadget_lies}
 use Rattle.flp_weak.proofs.lies.lying_gadget.Goals as goal
