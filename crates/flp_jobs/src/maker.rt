@@ -77,7 +77,7 @@ impl Maker {
             &mut self.input,
             &mut self.joint,
             &mut self.checker,
-            &mut self.unshared[..file.shape.meas as usize],
+            &mut self.unshared,
         )
     }
 

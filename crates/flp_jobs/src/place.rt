@@ -1,5 +1,5 @@
 //! The encoding of a job, and why its place is bad.
-ghost use Rattle.std.specs.Prelude.{◌≡◌, ◌<◌, length, OnOk};
+ghost use Rattle.std.specs.Prelude.{◌≡◌, ◌<◌, ◌≤◌, length, OnOk};
 ghost use Rattle.std.specs.Result.{result_err};
 ghost use Rattle.flp_report.specs.JobParts.{job_of};
 ghost use Rattle.flp_jobs.specs.Checks.{check_room};
@@ -86,25 +86,26 @@ fn first_check(
 /// Why the place of a job is bad: its measurement is refused, or else a check is not 0, for the least proof and then the
 /// least check.
 ///
-/// `input` has a place for each number of the input, `joint` for each joint word of a proof, and `x` for each word of
-/// the encoding.
+/// `input` has a place for each number of the input, `joint` for each joint word of a proof, and `room` for the words of
+/// the encoding, or more.
 pub(crate) fn judge(
     file: &JobFile,
     job: &Job,
     input: &mut [u64],
     joint: &mut [Fe],
     checker: &mut Checker,
-    x: &mut [Fe],
+    room: &mut [Fe],
 ) -> Option<PlaceFault>
     requires whole { IsWhole file.now }
     requires job { IsJobOf file.now job.now }
     requires input { length input.old ≡ file.now.shape.input }
     requires joint { length joint.old ≡ file.now.shape.joint }
     requires made { checker.old ≡ check_room file.now.loaded.plan }
-    requires x { length x.old ≡ file.now.shape.meas }
+    requires room { file.now.shape.meas ≤ length room.old }
     ensures fault { result ≡ place.place_fault (setting_of file.now) (job_of job.now) }
     ensures again { checker.new ≡ checker.old }
 {
+    let x = &mut room[..file.shape.meas as usize];
     match write_encoding(file, job, input, x) {
         Ok(()) => first_check(file, job, x, joint, checker),
         Err(MeasFault::Range(number, value)) => Some(PlaceFault::Range { number, value }),
