@@ -12,7 +12,7 @@ use flp_plan::{Plan, laws};
 /// Writes the values of the calls, one after another, to the front of `answers`.
 ///
 /// `inputs` has room for the inputs of any gadget.
-pub(crate) fn write_answers(
+pub fn write_answers(
     plan: &Plan,
     publics: &[Fe],
     x: &[Fe],

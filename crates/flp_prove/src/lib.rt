@@ -12,7 +12,7 @@
 //! "Zero-Knowledge Proofs on Secret-Shared Data via Fully Linear PCPs", CRYPTO 2019.
 #![tactic(auto)]
 
-mod answers;
+pub mod answers;
 pub mod laws;
 mod part;
 mod prover;

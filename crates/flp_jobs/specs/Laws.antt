@@ -1,0 +1,71 @@
+-- What is made is a batch of honest reports. From one record up to the file.
+use Rattle.std.specs.Prelude.{ℕ, ◌≡◌, ◌<◌, List, [], Option, Some, None, IfSome, map}
+use Rattle.std.specs.List.{All}
+use Rattle.flp_syntax.specs.declared.syntax.Params.{Params}
+use Rattle.flp_meaning.specs.Circuit.{IsValid}
+use Rattle.flp_report.specs.Record.{words_in}
+use Rattle.flp_report.specs.Words.{bad_word_in}
+use Rattle.flp_report.specs.Job.{job_header_of, jobs_of}
+use Rattle.flp_report.specs.Batch.{whole_records}
+use Rattle.flp_worker.specs.Parts.{joint_words, query_words, unshared_encoding, unshared_proof}
+use Rattle.flp_verdict.specs.Laws.{IsHonest}
+use Rattle.flp_batch.specs.Setting.{Setting}
+use Rattle.flp_batch.specs.File.{IsBatch}
+use Rattle.flp_jobs.specs.declared.fault.ProveFault.{ProveFault}
+use Rattle.flp_jobs.specs.Setting.{JobSetting}
+use Rattle.flp_jobs.specs.File.{IsJobFile}
+use Rattle.flp_jobs.specs.Encoding.{job_joint, job_query, job_encoding}
+use Rattle.flp_jobs.specs.Record.{record_shape, job_proof, record_made, batch_made}
+use Rattle.flp_jobs.specs.Reply.{IsProvable, IsRefusal}
+
+-- ---- a file has one answer
+
+abbrev pub OneSetting : Type 0
+OneSetting = (bytes : List ℕ) (setting other : JobSetting) → IsJobFile bytes setting → IsJobFile bytes other → setting ≡ other
+
+abbrev pub OneRefusal : Type 0
+OneRefusal = (bytes : List ℕ) (fault other : ProveFault) → IsRefusal bytes fault → IsRefusal bytes other → fault ≡ other
+
+abbrev pub NeverBoth : Type 0
+NeverBoth = (bytes : List ℕ) (setting : JobSetting) (fault : ProveFault) → IsProvable bytes setting → IsRefusal bytes fault → ⊥
+
+-- ---- the batch is read again
+
+-- what the records of the batch are judged by
+abbrev pub batch_setting : JobSetting → Setting
+batch_setting by = record { circuit = by.circuit; shape = record_shape by.shape; claims = [] }
+
+-- the batch that is made of a job file is one, for each party that has a share, with the records that were made
+pub record ReadsBack (party : Option ℕ) (by : JobSetting) (bytes : List ℕ) : Type 0 where
+  pub is_batch : IsBatch party (batch_made by bytes) by.params (batch_setting by)
+  pub records : whole_records party (record_shape by.shape) (batch_made by bytes) ≡ map (record_made by) (jobs_of by.shape bytes)
+
+abbrev pub BatchesReadBack : Type 0
+BatchesReadBack =
+    (party : Option ℕ) (bytes : List ℕ) (by : JobSetting) → IsProvable bytes by
+    → IfSome party (λ p. p < by.shape.shares) → ReadsBack party by bytes
+
+-- ---- its records are honest
+
+-- the proof of this number: with the joint and query words of the job, under which the job's encoding is valid, it is
+-- the honest proof for the job's seeds
+pub record KeepsProof (by : JobSetting) (job words : List ℕ) (proof : ℕ) : Type 0 where
+  pub joint : joint_words (record_shape by.shape) words proof ≡ job_joint by.shape job proof
+  pub query : query_words (record_shape by.shape) words proof ≡ job_query by.shape job proof
+  pub valid : IsValid by.circuit (job_encoding by job) (job_joint by.shape job proof)
+  pub honest : unshared_proof (record_shape by.shape) words proof ≡ job_proof by job proof
+
+-- these are the words of an honest record of the job: words of the field, whose shares sum up to the job's encoding and to honest proofs
+pub record KeepsJob (by : JobSetting) (job words : List ℕ) : Type 0 where
+  pub good : bad_word_in words ≡ None
+  pub encoding : unshared_encoding (record_shape by.shape) words ≡ job_encoding by job
+  pub proofs : (proof : ℕ) → proof < by.shape.proofs → KeepsProof by job words proof
+
+-- the record that is made of a job keeps it, and is honest
+pub record IsHonestlyMade (by : JobSetting) (job : List ℕ) : Type 0 where
+  pub keeps : KeepsJob by job (words_in (record_shape by.shape) (record_made by job))
+  pub honest : IsHonest by.circuit (record_shape by.shape) (record_made by job)
+
+abbrev pub RecordsAreHonest : Type 0
+RecordsAreHonest =
+    (bytes : List ℕ) (by : JobSetting) → IsProvable bytes by → All (IsHonestlyMade by) (jobs_of by.shape bytes)

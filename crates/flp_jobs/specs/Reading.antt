@@ -1,0 +1,44 @@
+-- What reading a job file gave.
+use Rattle.std.specs.Prelude.{ℕ, ◌≡◌, ◌≤◌, ◌⊎◌, List, Option, Some, None, IfSome, length}
+use Rattle.std.specs.Io.KnownBytes.{Consumes, IsAtEnd}
+use Rattle.flp_report.specs.declared.fault.BatchFault.{BatchFault}
+use Rattle.flp_report.specs.declared.job_shape.JobShape.{JobShape}
+use Rattle.flp_report.specs.declared.job.Job.{Job}
+use Rattle.flp_report.specs.Job.{job_header_of, jobs_of, job_large_fault, jobs_fault, job_bad_word, word_fault}
+use Rattle.flp_report.specs.JobParts.{jobs_shape, jobs_count, jobs_in, job_of, job_shape_of}
+use Rattle.flp_jobs.specs.declared.file.JobFile.{JobFile}
+use Rattle.flp_jobs.specs.Setting.{JobSetting, IsSetting}
+use Rattle.flp_jobs.specs.File.{IsJobFile}
+use Rattle.flp_jobs.specs.Record.{made_header}
+
+-- behind a head up to this place, with so many jobs, the first fault is that a size is above its limit, or else one of the jobs
+abbrev pub IsRefusedBehind : JobShape → ℕ → ℕ → Option (List ℕ) → BatchFault → Type 0
+IsRefusedBehind shape place jobs left fault =
+    (job_large_fault shape place jobs ≡ Some fault)
+    ⊎ ((job_large_fault shape place jobs ≡ None) × IfSome left (λ rest. jobs_fault shape place jobs rest ≡ Some fault))
+
+-- what the records are made by
+abbrev pub setting_of : JobFile → JobSetting
+setting_of file = record { params = file.loaded.params; circuit = file.loaded.plan.circuit; shape = file.shape }
+
+-- the input was read to its end and is a job file, and this is what it says
+pub record Reads (left left' : Option (List ℕ)) (file : JobFile) : Type 0 where
+  pub bytes : List ℕ
+  pub read : Consumes left left' bytes
+  pub ended : IsAtEnd left'
+  pub is_file : IsJobFile bytes (setting_of file)
+  pub header : made_header (job_header_of bytes) ≡ file.header
+  pub jobs : jobs_of file.shape bytes ≡ jobs_in file.jobs
+
+-- what holds of each file that was read
+pub record IsWhole (file : JobFile) : Type 0 where
+  pub setting : IsSetting (setting_of file)
+  pub text : length file.header.text ≤ 65536
+  pub shape : jobs_shape file.jobs ≡ file.shape
+  pub count : jobs_count file.jobs ≡ file.header.reports
+  pub words : word_fault file.shape 0 (jobs_in file.jobs) ≡ None
+
+-- a job of a file
+pub record IsJobOf (file : JobFile) (job : Job) : Type 0 where
+  pub shape : job_shape_of job ≡ file.shape
+  pub words : job_bad_word file.shape (job_of job) ≡ None

@@ -1,0 +1,31 @@
+//! The command `prove`: measurements become reports.
+//!
+//! A job file has for each report a measurement, or an encoding for a circuit of the text's own, the words of
+//! shares 1 and up, the seeds of the proofs, and their joint and query words. [`prove`] reads such a file whole
+//! and judges it, then judges every place, and only then writes the batch: per job the record whose shares from 1
+//! on are the given words, and whose share 0 makes the sum of the shares the job's encoding with its honest proofs.
+//!
+//! The contract of [`prove`] says which bytes it writes, as a function of the bytes that it reads, and why it
+//! refuses a file: `specs/File.antt` says which bytes are a job file or which is their first fault, `specs/Place.antt`
+//! which place is bad, `specs/Record.antt` which record is made of a job. The functions in [`laws`] say that no file
+//! has two answers, and that what is written is a batch of honest reports.
+//!
+//! Memory is taken for the whole job file and for one record, before anything is written.
+#![tactic(auto)]
+
+mod checks;
+mod command;
+mod fault;
+mod file;
+pub mod laws;
+mod maker;
+mod place;
+#[cfg(test)]
+mod tests;
+mod words;
+
+pub use command::prove;
+pub use fault::{PlaceFault, ProveFault};
+
+/// Want of memory, as std's allocators answer it.
+pub use std::alloc::AllocError as Memory;

@@ -1,0 +1,118 @@
+//! What judges places and makes records, one after another.
+ghost use Rattle.std.specs.Prelude.{◌≡◌, None, length, IfOk};
+ghost use Rattle.flp_report.specs.JobParts.{job_of};
+ghost use Rattle.flp_jobs.specs.Maker.{IsMadeFor};
+ghost use Rattle.flp_jobs.specs.Place as place;
+ghost use Rattle.flp_jobs.specs.Reading.{setting_of, IsWhole, IsJobOf};
+ghost use Rattle.flp_jobs.specs.Record.{made_words};
+
+use crate::Memory;
+use crate::checks::Checker;
+use crate::fault::PlaceFault;
+use crate::file::JobFile;
+use crate::place::{first_check, write_encoding};
+use crate::words::{load_given, write_unshared, write_words};
+use flp_circuits::MeasFault;
+use flp_field::Fe;
+use flp_prove::Prover;
+use flp_report::Job;
+use flp_share::split;
+use std::alloc::Global;
+
+/// Room for judging the places of a job file and for making their records, made once and used for each place.
+#[derive(Drop)]
+pub(crate) struct Maker {
+    checker: Checker,
+    prover: Prover,
+    /// The numbers of an input.
+    input: Vec<u64>,
+    /// The joint words of a proof.
+    joint: Vec<Fe>,
+    /// The seeds of a proof.
+    seeds: Vec<Fe>,
+    /// An encoding and its proofs.
+    unshared: Vec<Fe>,
+    /// The words of shares 1 and up.
+    given: Vec<Fe>,
+    /// The words of all shares.
+    shares: Vec<Fe>,
+    /// The words of a record.
+    words: Vec<u64>,
+}
+
+impl Maker {
+    /// A maker for a job file. It takes all the memory that judging and making need.
+    pub(crate) fn new(alloc: Global, file: &JobFile) -> Result<Maker, Memory>
+        ensures { IfOk result (IsMadeFor file.now) }
+    {
+        let shape = &file.shape;
+        let part = shape.part() as usize;
+        let shares = shape.shares as usize;
+        let own = shape.joint as usize + shape.query as usize;
+        let words = shares * part + shape.proofs as usize * own;
+        Ok(Maker {
+            checker: Checker::new(alloc, &file.loaded.plan)?,
+            prover: Prover::new(alloc, &file.loaded.plan)?,
+            input: vec![in alloc; 0; shape.input as usize]?,
+            joint: vec![in alloc; Fe::ZERO; shape.joint as usize]?,
+            seeds: vec![in alloc; Fe::ZERO; shape.prove as usize]?,
+            unshared: vec![in alloc; Fe::ZERO; part]?,
+            given: vec![in alloc; Fe::ZERO; shares.saturating_sub(1) * part]?,
+            shares: vec![in alloc; Fe::ZERO; shares * part]?,
+            words: vec![in alloc; 0; words]?,
+        })
+    }
+
+    /// Why the place of a job is bad: its measurement is refused, or else a check is not 0, for the least proof and
+    /// then the least check.
+    pub(crate) fn place_fault(&mut self, file: &JobFile, job: &Job) -> Option<PlaceFault>
+        requires whole { IsWhole file.now }
+        requires job { IsJobOf file.now job.now }
+        requires made { IsMadeFor file.now self.old }
+        ensures fault { result ≡ place.place_fault (setting_of file.now) (job_of job.now) }
+        ensures again { IsMadeFor file.now self.new }
+    {
+        let x = &mut self.unshared[..file.shape.meas as usize];
+        match write_encoding(file, job, &mut self.input, x) {
+            Ok(()) => first_check(file, job, x, &mut self.joint, &mut self.checker),
+            Err(MeasFault::Range(number, value)) => Some(PlaceFault::Range { number, value }),
+            Err(MeasFault::Weight(ones)) => Some(PlaceFault::Weight(ones)),
+            Err(MeasFault::Count(_)) => unreachable!(),
+        }
+    }
+
+    /// Makes the words of the record of a job whose place is not bad.
+    pub(crate) fn make(&mut self, file: &JobFile, job: &Job)
+        requires whole { IsWhole file.now }
+        requires job { IsJobOf file.now job.now }
+        requires made { IsMadeFor file.now self.old }
+        requires good { place.place_fault (setting_of file.now) (job_of job.now) ≡ None }
+        ensures words { self.new.words.items ≡ made_words (setting_of file.now) (job_of job.now) }
+        ensures again { IsMadeFor file.now self.new }
+    {
+        write_unshared(
+            file,
+            job,
+            &mut self.input,
+            &mut self.joint,
+            &mut self.seeds,
+            &mut self.prover,
+            &mut self.unshared,
+        );
+        load_given(file, job, &mut self.given);
+        split(
+            &self.unshared,
+            &self.given,
+            file.shape.shares,
+            &mut self.shares,
+        );
+        write_words(file, job, &self.shares, &mut self.words);
+    }
+
+    /// The words of the record that was made last.
+    pub(crate) fn words(&self) -> &[u64]
+        ensures { result.now ≡ self.now.words.items }
+    {
+        &self.words
+    }
+}
