@@ -4,8 +4,9 @@ use Rattle.std.specs.Prelude.{IfSome, if◌then◌else◌, not, nat_eq}
 use Rattle.std.specs.List.{All, concat, starts_with}
 use Rattle.std.proofs.Math.Nat.{mul-le-mul_left}
 use Rattle.std.proofs.lemmas.Bool.{ltb-false, le-ltb}
+use Rattle.std.proofs.lemmas.Option.{slice_get-get_or}
 use Rattle.std.proofs.lemmas.List.{length-map, length-take-le}
-use Rattle.std.proofs.lemmas.List.Elements.{All-nil, All-cons, All-head, All-tail, All-map, All-weaker}
+use Rattle.std.proofs.lemmas.List.Elements.{All-map, All-weaker}
 use Rattle.flp_report.specs.declared.fault.BatchFault.{BatchFault}
 use Rattle.flp_report.specs.declared.fault.BatchFault.TheVariants.{Magic, Version, Shares, Proofs, TextLength, TooLarge, Truncated, Trailing}
 use Rattle.flp_report.specs.declared.header.Header.{Header}
@@ -16,19 +17,18 @@ use Rattle.flp_report.specs.Shape.{bytes_of}
 use Rattle.flp_report.specs.Pieces.{IsCut}
 use Rattle.flp_report.specs.Batch.{batch_letters, large_fault, claims_fault, records_fault, header_of, claims_of, claims_end, size_of, front_fault, fault_of, whole_records}
 use Rattle.flp_report.specs.Layout.{head_bytes, IsWritable}
-use Rattle.flp_report.specs.Job.{job_letters, job_header_of, job_bytes_of, made_bytes_of, job_large_fault, job_bad_word, word_or, word_fault, jobs_fault, jobs_of}
+use Rattle.flp_report.specs.Job.{job_letters, job_header_of, job_bytes_of, made_bytes_of, job_large_fault, word_fault, jobs_fault, jobs_of}
 use Rattle.flp_report.proofs.PiecesLemmas.{IsCut-pieces}
 use Rattle.flp_report.proofs.BackLemmas.{reads_back}
 use Rattle.flp_load.specs.Loaded.{IsLoaded}
 use Rattle.flp_batch.specs.Setting.{IsShapeOf}
-use Rattle.flp_jobs.specs.declared.fault.PlaceFault.{PlaceFault}
 use Rattle.flp_jobs.specs.Setting.{JobSetting}
 use Rattle.flp_jobs.specs.File.{HasSetting}
-use Rattle.flp_jobs.specs.Place.{place_fault, place_or, bad_place}
 use Rattle.flp_jobs.specs.Record.{record_shape, made_header, record_made, batch_made}
 use Rattle.flp_jobs.specs.Reply.{IsProvable}
 use Rattle.flp_jobs.specs.Laws.{ReadsBack, BatchesReadBack, IsHonestlyMade, RecordsAreHonest}
 use Rattle.flp_jobs.proofs.SettingLemmas.{circuit-of, IsSetting-from}
+use Rattle.flp_jobs.proofs.PlaceLemmas.{place-good, words-good}
 use Rattle.flp_jobs.proofs.LawLoadedLemmas.{bounded-loaded}
 use Rattle.flp_jobs.proofs.LawRecordLemmas.{IsSound, IsGood, length-record, honestly_made}
 
@@ -94,28 +94,6 @@ right-head bytes none =
       text = none-above 65536 (number_at 20 bytes) (TextLength (number_at 20 bytes)) (none-at (numbers_tried bytes) 7 numbers);
       whole = omega (arith, reaches);
     }
-
--- ---- the jobs
-
--- a word that is bad, or a place, is found
-no-word : (place : ℕ) (word : Option ℕ) (rest : Option BatchFault) → word_or place word rest ≡ None → (word ≡ None) × (rest ≡ None)
-no-word place None rest none = (refl, none)
-no-word place (Some word) rest none = let no : ⊥ = cc in absurd no
-
-no-place : (place : ℕ) (fault : Option PlaceFault) (rest : Option (ℕ × PlaceFault)) → place_or place fault rest ≡ None → (fault ≡ None) × (rest ≡ None)
-no-place place None rest none = (refl, none)
-no-place place (Some fault) rest none = let no : ⊥ = cc in absurd no
-
--- so where none is found each job is good
-all-good : (by : JobSetting) (first place : ℕ) (jobs : List (List ℕ)) → All (λ job. length job ≡ job_bytes_of by.shape) jobs
-    → word_fault by.shape first jobs ≡ None → bad_place by place jobs ≡ None → All (IsGood by) jobs
-all-good by first place [] sizes words places = All-nil (IsGood by)
-all-good by first place (job ∷ more) sizes words places =
-    let word = no-word first (job_bad_word by.shape job) (word_fault by.shape (suc first) more) words in
-    let good = no-place place (place_fault by job) (bad_place by (suc place) more) places in
-    let size : List ℕ → Type 0 = λ job. length job ≡ job_bytes_of by.shape in
-    All-cons (IsGood by) job more (record { size = All-head size job more sizes; words = word.0; place = good.0 })
-    (all-good by (suc first) (suc place) more (All-tail size job more sizes) word.1 good.1)
 
 -- ---- the file
 
@@ -190,8 +168,14 @@ module _ (bytes : List ℕ) (by : JobSetting) (provable : IsProvable bytes by) w
   cut : IsCut (job_bytes_of by.shape) count rest (jobs_of by.shape bytes)
   cut = IsCut-pieces (job_bytes_of by.shape) count rest whole
 
+  -- each job is good
   pub jobs-good : All (IsGood by) (jobs_of by.shape bytes)
-  jobs-good = all-good by 0 0 (jobs_of by.shape bytes) cut.sizes words provable.all_good
+  jobs-good =
+      λ (k : ℕ) (none : List ℕ) (below : k < length (jobs_of by.shape bytes)).
+      let jobs = jobs_of by.shape bytes in
+      let job = get_or jobs k none in
+      let at = slice_get-get_or jobs k none below in
+      record { size = cut.sizes k none below; words = words-good by.shape 0 k jobs job words at; place = place-good by 0 k jobs job provable.all_good at }
 
   -- ---- the batch that is made of it
 

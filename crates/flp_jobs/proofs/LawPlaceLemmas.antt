@@ -14,10 +14,10 @@ use Rattle.flp_circuits.specs.declared.fault.MeasFault.TheVariants as meas
 use Rattle.flp_circuits.specs.Sizes.{input_len_of}
 use Rattle.flp_circuits.specs.Encoding.{range_of, range_fault, weight_of, weight_fault}
 use Rattle.flp_circuits.proofs.EncodingLemmas.{option_or_none}
-use Rattle.flp_jobs.specs.declared.fault.PlaceFault.{PlaceFault}
 use Rattle.flp_jobs.specs.Setting.{JobSetting, input_count}
 use Rattle.flp_jobs.specs.Encoding.{job_input, job_joint, job_encoding, proof_numbers}
-use Rattle.flp_jobs.specs.Place.{failing_check, check_fault, first_check, input_fault, refused_or, place_fault}
+use Rattle.flp_jobs.specs.Place.{failing_check, check_fault, first_check, input_fault, place_fault}
+use Rattle.flp_jobs.proofs.PlaceLemmas.{refused_or-none}
 
 -- ---- no measurement has another count of numbers
 
@@ -57,18 +57,12 @@ no_count None circuit input size = tt
 
 -- ---- nothing is refused
 
-refused-none : (refused : Option MeasFault) (rest : Option PlaceFault) → IsNoCount refused → refused_or refused rest ≡ None → (refused ≡ None) × (rest ≡ None)
-refused-none None rest counted none = (refl, none)
-refused-none (Some (meas.Count count)) rest counted none = absurd counted
-refused-none (Some (meas.Range number value)) rest counted none = let no : ⊥ = cc in absurd no
-refused-none (Some (meas.Weight weight)) rest counted none = let no : ⊥ = cc in absurd no
-
 -- neither the measurement nor, under the joint words of any proof, a check
 pub place-none : (by : JobSetting) (job : List ℕ) → length (job_input by.shape job) ≡ input_count by.params by.circuit → place_fault by job ≡ None
     → (input_fault by.params (job_input by.shape job) ≡ None) × (first_check by job (proof_numbers by.shape) ≡ None)
 place-none by job size none =
-    refused-none (input_fault by.params (job_input by.shape job)) (first_check by job (proof_numbers by.shape))
-    (no_count by.params by.circuit (job_input by.shape job) size) none
+    refused_or-none (input_fault by.params (job_input by.shape job)) (first_check by job (proof_numbers by.shape))
+    (λ count is. subst IsNoCount is (no_count by.params by.circuit (job_input by.shape job) size)) none
 
 -- ---- the checks are 0
 
