@@ -112,7 +112,7 @@ jobs-refused left mid front header by place (read.Batch b) gone head text fits a
 -- ---- the jobs
 
 -- their bytes
-length-jobs : (jobs : Jobs) (shape : JobShape) (count : ℕ) → jobs_shape jobs ≡ shape → jobs_count jobs ≡ count → length (jobs_bytes jobs) ≡ count * job_bytes_of shape
+pub length-jobs : (jobs : Jobs) (shape : JobShape) (count : ℕ) → jobs_shape jobs ≡ shape → jobs_count jobs ≡ count → length (jobs_bytes jobs) ≡ count * job_bytes_of shape
 length-jobs jobs shape count same number =
     jobs.whole ∙ (ap (λ (n : ℕ). n * job_bytes_of jobs.shape) number ∙ ap (λ (s : JobShape). count * job_bytes_of s) same)
 

@@ -1,5 +1,5 @@
 -- The parts of a job: how long they are, and that they hold words of the field.
-use Rattle.std.proofs.Common.{◌≡◌, ℕ, ◌+◌, ◌-◌, ◌*◌, ◌<◌, ◌≤◌, List, [], ◌∷◌, length, take, drop, Option, Some, None, true, false, nat_le, if◌then◌else◌, Bool, refl, sym, ap, subst, ◌∙◌, ⊎_elim, arith}
+use Rattle.std.proofs.Common.{◌≡◌, ℕ, ◌+◌, ◌-◌, ◌*◌, ◌<◌, ◌≤◌, List, [], ◌∷◌, length, take, drop, Option, Some, None, true, false, nat_le, if◌then◌else◌, Bool, refl, sym, ap, ap₂, subst, ◌∙◌, ⊎_elim, arith}
 use Rattle.std.specs.List.{All, position_from}
 use Rattle.std.proofs.lemmas.Bool.{cases_Bool, leb-false}
 use Rattle.std.proofs.lemmas.List.{drop-drop}
@@ -92,3 +92,19 @@ length-joint s job proof below whole =
 pub length-query : (s : JobShape) (job : List ℕ) (proof : ℕ) → proof < s.proofs → length job ≡ job_bytes_of s → length (job_query_in s job proof) ≡ 8 * s.query
 length-query s job proof below whole =
     length-words_at (job_own_start s proof + 8 * s.joint) (8 * s.query) job (omega (arith, whole, own-fits s proof below))
+
+-- ---- what is read of a part
+
+-- a part of this many words, read for as many places
+pub read-size : (read part : List ℕ) (n m : ℕ) → read ≡ part → n ≡ m → length part ≡ 8 * m → length read ≡ 8 * n
+read-size read part n m is count size = ap length is ∙ (size ∙ ap (λ (k : ℕ). 8 * k) (sym count))
+
+pub read-good : (read part : List ℕ) (n m : ℕ) → read ≡ part → n ≡ m → All IsWord (words m part) → All IsWord (words n read)
+read-good read part n m is count good = subst (λ (l : List ℕ). All IsWord l) (sym (ap₂ words count is)) good
+
+-- the job has this proof, by the shape that it was made for
+pub own-proof : (given shape : JobShape) (proof : ℕ) → given ≡ shape → proof < shape.proofs → proof < given.proofs
+own-proof given shape proof same below = subst (λ (s : JobShape). proof < s.proofs) (sym same) below
+
+pub shape-good : (given shape : JobShape) (job : List ℕ) → given ≡ shape → job_bad_word shape job ≡ None → job_bad_word given job ≡ None
+shape-good given shape job same good = subst (λ (s : JobShape). job_bad_word s job ≡ None) (sym same) good

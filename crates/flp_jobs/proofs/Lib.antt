@@ -26,3 +26,7 @@ pub mod ReplyLemmas
 pub mod SettingLemmas
 -- faults of readers
 pub mod FaultLemmas
+-- records one after another
+pub mod RecordLemmas
+-- measurements that are not refused
+pub mod MeasLemmas

@@ -75,8 +75,9 @@ pub(crate) fn first_check(
 {
     for proof in 0..file.shape.proofs {
         load_joint(file, job, proof, joint);
-        if let Some(check) = checker.failing_check(&file.loaded.plan, x, joint) {
-            return Some(PlaceFault::Check { check, proof });
+        match checker.failing_check(&file.loaded.plan, x, joint) {
+            Some(check) => return Some(PlaceFault::Check { check, proof }),
+            None => {}
         }
     }
     None
