@@ -1,6 +1,6 @@
 -- From what the reader's calls gave to what all bytes of a file say.
 use Rattle.std.proofs.Common.{◌≡◌, ◌≢◌, ◌⊎◌, ℕ, ◌+◌, ◌*◌, ◌≤◌, ⊎_elim, List, [], ◌∷◌, ◌++◌, length, Option, Some, None, Result, Err, inl, inr, refl, sym, ap, subst, ◌∙◌, arith, append-nil, length-append}
-use Rattle.std.specs.Prelude.{IfSome}
+use Rattle.std.specs.Prelude.{IfSome, slice_get}
 use Rattle.std.specs.Io.KnownBytes.{Consumes, IsAtEnd}
 use Rattle.std.proofs.KnownBytes.{Consumes-trans, Consumes-whole}
 use Rattle.flp_load.specs.declared.fault.LoadFault.{LoadFault}
@@ -15,24 +15,27 @@ use Rattle.flp_report.specs.declared.fault.ReadFault.TheVariants as read
 use Rattle.flp_report.specs.declared.job_shape.JobHeader.{JobHeader}
 use Rattle.flp_report.specs.declared.job_shape.JobShape.{JobShape}
 use Rattle.flp_report.specs.declared.job.Jobs.{Jobs}
+use Rattle.flp_report.specs.declared.job.Job.{Job}
 use Rattle.flp_report.specs.Fault.{IfBatch}
 use Rattle.flp_report.specs.Head.{head_fault, number_at}
 use Rattle.flp_report.specs.Pieces.{pieces}
 use Rattle.flp_report.specs.Job.{job_letters, job_header_of, job_bytes_of, job_large_fault, jobs_fault, word_fault, job_fault_of, jobs_of, IsJobHead}
 use Rattle.flp_report.specs.Reads.{ConsumesAtMost}
-use Rattle.flp_report.specs.JobParts.{jobs_shape, jobs_count, jobs_bytes, jobs_in}
+use Rattle.flp_report.specs.JobParts.{jobs_shape, jobs_count, jobs_bytes, jobs_in, job_of, job_shape_of}
 use Rattle.flp_report.proofs.HeadLemmas.{length-text}
 use Rattle.flp_report.proofs.JobHeadLemmas.{job_head-more, job_header_of-more, job_fault-shape, job_fault-jobs, jobs_of-more, job_says}
 use Rattle.flp_report.proofs.PartFaultLemmas.{jobs_fault-trailing, jobs_fault-words}
 use Rattle.flp_report.proofs.KnownLemmas.{IfSome-consumed, IfSome-before, IfSome-map}
 use Rattle.flp_report.proofs.ReadsLemmas.{ConsumesAtMost-after}
+use Rattle.flp_report.proofs.PiecesLemmas.{IsCut-pieces}
 use Rattle.flp_jobs.specs.declared.fault.ProveFault.TheVariants.{File, Circuit}
 use Rattle.flp_jobs.specs.declared.file.JobFile.{JobFile}
 use Rattle.flp_jobs.specs.Fault.{fault_from, fault_of_text, IfInput}
 use Rattle.flp_jobs.specs.Setting.{JobSetting, IsJobShapeOf}
 use Rattle.flp_jobs.specs.File.{HasSetting, IsJobFile, IsTextFault, IsFileFault}
 use Rattle.flp_jobs.specs.Record.{made_header}
-use Rattle.flp_jobs.specs.Reading.{IsRefusedBehind, setting_of, Reads}
+use Rattle.flp_jobs.specs.Reading.{IsRefusedBehind, setting_of, Reads, IsWhole, IsJobOf}
+use Rattle.flp_jobs.proofs.PlaceLemmas.{words-good}
 use Rattle.flp_jobs.specs.Reply.{IsRefusal, TakesFile, TakesFew, size_of}
 
 -- where the jobs begin
@@ -208,3 +211,16 @@ few-jobs left mid left' front header by count gone head text fits number few =
       has = HasSetting-more front rest header by head text fits;
       few = ConsumesAtMost-after left mid left' front (count * job_bytes_of by.shape + 1) (size_of by.shape (front ++ rest) + 1) gone few (omega (arith, many, says.text));
     }))
+
+-- ---- the jobs of a file that was read
+
+-- how many there are
+pub count-jobs : (file : JobFile) → IsWhole file → length (jobs_in file.jobs) ≡ file.header.reports
+count-jobs file whole =
+    (IsCut-pieces (job_bytes_of file.jobs.shape) file.jobs.count (jobs_bytes file.jobs) file.jobs.whole).number ∙ whole.count
+
+-- each is one of this file
+pub IsJobOf-numbered : (file : JobFile) (job : Job) (number : ℕ) → IsWhole file → job_shape_of job ≡ jobs_shape file.jobs
+    → slice_get (jobs_in file.jobs) number ≡ Some (job_of job) → IsJobOf file job
+IsJobOf-numbered file job number whole same at =
+    record { shape = same ∙ whole.shape; words = words-good file.shape 0 number (jobs_in file.jobs) (job_of job) whole.words at }

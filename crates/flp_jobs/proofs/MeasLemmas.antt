@@ -41,8 +41,8 @@ weight-counted (Histogram length chunk) count input is = cc
 weight-counted (Multihot length weight chunk) count input is = one-weight (nat_le (weight_of input) weight) (weight_of input) count is
 
 either-counted : (first second : Option MeasFault) (count : ℕ) → (IsCounted first count → ⊥) → (IsCounted second count → ⊥) → IsCounted (option_or first second) count → ⊥
-either-counted None second count no not is = not is
-either-counted (Some fault) second count no not is = no is
+either-counted None second count one other is = other is
+either-counted (Some fault) second count one other is = one is
 
 meas-counted : (params : Params) (count : ℕ) (input : List ℕ) → length input ≡ input_len_of params → IsCounted (meas_fault params input) count → ⊥
 meas-counted params count input size is =

@@ -57,7 +57,7 @@ pub(crate) fn load_joint(file: &JobFile, job: &Job, proof: u32, joint: &mut [Fe]
 /// one, the least.
 ///
 /// `joint` has a place for each joint word of a proof.
-pub(crate) fn first_check(
+fn first_check(
     file: &JobFile,
     job: &Job,
     x: &[Fe],
@@ -81,4 +81,34 @@ pub(crate) fn first_check(
         }
     }
     None
+}
+
+/// Why the place of a job is bad: its measurement is refused, or else a check is not 0, for the least proof and then the
+/// least check.
+///
+/// `input` has a place for each number of the input, `joint` for each joint word of a proof, and `x` for each word of
+/// the encoding.
+pub(crate) fn judge(
+    file: &JobFile,
+    job: &Job,
+    input: &mut [u64],
+    joint: &mut [Fe],
+    checker: &mut Checker,
+    x: &mut [Fe],
+) -> Option<PlaceFault>
+    requires whole { IsWhole file.now }
+    requires job { IsJobOf file.now job.now }
+    requires input { length input.old ≡ file.now.shape.input }
+    requires joint { length joint.old ≡ file.now.shape.joint }
+    requires made { checker.old ≡ check_room file.now.loaded.plan }
+    requires x { length x.old ≡ file.now.shape.meas }
+    ensures fault { result ≡ place.place_fault (setting_of file.now) (job_of job.now) }
+    ensures again { checker.new ≡ checker.old }
+{
+    match write_encoding(file, job, input, x) {
+        Ok(()) => first_check(file, job, x, joint, checker),
+        Err(MeasFault::Range(number, value)) => Some(PlaceFault::Range { number, value }),
+        Err(MeasFault::Weight(ones)) => Some(PlaceFault::Weight(ones)),
+        Err(MeasFault::Count(_)) => unreachable!(),
+    }
 }
