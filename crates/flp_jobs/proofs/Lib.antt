@@ -30,3 +30,5 @@ pub mod FaultLemmas
 pub mod RecordLemmas
 -- measurements that are not refused
 pub mod MeasLemmas
+-- faults of the input
+pub mod CommandLemmas
