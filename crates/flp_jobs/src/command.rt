@@ -30,8 +30,9 @@ fn bad_place(file: &JobFile, maker: &mut Maker) -> Option<(u32, PlaceFault)>
 {
     for number in 0..file.header.reports {
         let job = file.jobs.job_at(number);
-        if let Some(fault) = maker.place_fault(file, &job) {
-            return Some((number, fault));
+        match maker.place_fault(file, &job) {
+            Some(fault) => return Some((number, fault)),
+            None => {}
         }
     }
     None

@@ -10,9 +10,8 @@ use crate::Memory;
 use crate::checks::Checker;
 use crate::fault::PlaceFault;
 use crate::file::JobFile;
-use crate::place::{first_check, write_encoding};
+use crate::place::judge;
 use crate::words::{load_given, write_unshared, write_words};
-use flp_circuits::MeasFault;
 use flp_field::Fe;
 use flp_prove::Prover;
 use flp_report::Job;
@@ -72,13 +71,14 @@ impl Maker {
         ensures fault { result ≡ place.place_fault (setting_of file.now) (job_of job.now) }
         ensures again { IsMadeFor file.now self.new }
     {
-        let x = &mut self.unshared[..file.shape.meas as usize];
-        match write_encoding(file, job, &mut self.input, x) {
-            Ok(()) => first_check(file, job, x, &mut self.joint, &mut self.checker),
-            Err(MeasFault::Range(number, value)) => Some(PlaceFault::Range { number, value }),
-            Err(MeasFault::Weight(ones)) => Some(PlaceFault::Weight(ones)),
-            Err(MeasFault::Count(_)) => unreachable!(),
-        }
+        judge(
+            file,
+            job,
+            &mut self.input,
+            &mut self.joint,
+            &mut self.checker,
+            &mut self.unshared,
+        )
     }
 
     /// Makes the words of the record of a job whose place is not bad.

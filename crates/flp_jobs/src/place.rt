@@ -1,5 +1,5 @@
 //! The encoding of a job, and why its place is bad.
-ghost use Rattle.std.specs.Prelude.{◌≡◌, ◌<◌, length, OnOk};
+ghost use Rattle.std.specs.Prelude.{◌≡◌, ◌<◌, ◌≤◌, length, OnOk};
 ghost use Rattle.std.specs.Result.{result_err};
 ghost use Rattle.flp_report.specs.JobParts.{job_of};
 ghost use Rattle.flp_jobs.specs.Checks.{check_room};
@@ -57,7 +57,7 @@ pub(crate) fn load_joint(file: &JobFile, job: &Job, proof: u32, joint: &mut [Fe]
 /// one, the least.
 ///
 /// `joint` has a place for each joint word of a proof.
-pub(crate) fn first_check(
+fn first_check(
     file: &JobFile,
     job: &Job,
     x: &[Fe],
@@ -75,9 +75,41 @@ pub(crate) fn first_check(
 {
     for proof in 0..file.shape.proofs {
         load_joint(file, job, proof, joint);
-        if let Some(check) = checker.failing_check(&file.loaded.plan, x, joint) {
-            return Some(PlaceFault::Check { check, proof });
+        match checker.failing_check(&file.loaded.plan, x, joint) {
+            Some(check) => return Some(PlaceFault::Check { check, proof }),
+            None => {}
         }
     }
     None
+}
+
+/// Why the place of a job is bad: its measurement is refused, or else a check is not 0, for the least proof and then the
+/// least check.
+///
+/// `input` has a place for each number of the input, `joint` for each joint word of a proof, and `room` for the words of
+/// the encoding, or more.
+pub(crate) fn judge(
+    file: &JobFile,
+    job: &Job,
+    input: &mut [u64],
+    joint: &mut [Fe],
+    checker: &mut Checker,
+    room: &mut [Fe],
+) -> Option<PlaceFault>
+    requires whole { IsWhole file.now }
+    requires job { IsJobOf file.now job.now }
+    requires input { length input.old ≡ file.now.shape.input }
+    requires joint { length joint.old ≡ file.now.shape.joint }
+    requires made { checker.old ≡ check_room file.now.loaded.plan }
+    requires room { file.now.shape.meas ≤ length room.old }
+    ensures fault { result ≡ place.place_fault (setting_of file.now) (job_of job.now) }
+    ensures again { checker.new ≡ checker.old }
+{
+    let x = &mut room[..file.shape.meas as usize];
+    match write_encoding(file, job, input, x) {
+        Ok(()) => first_check(file, job, x, joint, checker),
+        Err(MeasFault::Range(number, value)) => Some(PlaceFault::Range { number, value }),
+        Err(MeasFault::Weight(ones)) => Some(PlaceFault::Weight(ones)),
+        Err(MeasFault::Count(_)) => unreachable!(),
+    }
 }

@@ -1,0 +1,298 @@
+-- A job file without a bad place: what its head says, that each of its jobs is good, and that its batch is read again.
+use Rattle.std.proofs.Common.{ℕ, zero, suc, ◌≡◌, ◌+◌, ◌*◌, ◌^◌, ◌<◌, ◌≤◌, List, [], ◌∷◌, ◌++◌, length, map, drop, get_or, Bool, true, false, eqb, ltb, Option, Some, None, refl, sym, subst, ◌∙◌, arith, append-nil}
+use Rattle.std.specs.Prelude.{IfSome, if◌then◌else◌, not, nat_eq}
+use Rattle.std.specs.List.{All, concat, starts_with}
+use Rattle.std.proofs.Math.Nat.{mul-le-mul_left}
+use Rattle.std.proofs.lemmas.Bool.{ltb-false, le-ltb}
+use Rattle.std.proofs.lemmas.Option.{slice_get-get_or}
+use Rattle.std.proofs.lemmas.List.{length-map, length-take-le}
+use Rattle.std.proofs.lemmas.List.Elements.{All-map, All-weaker}
+use Rattle.flp_report.specs.declared.fault.BatchFault.{BatchFault}
+use Rattle.flp_report.specs.declared.fault.BatchFault.TheVariants.{Magic, Version, Shares, Proofs, TextLength, TooLarge, Truncated, Trailing}
+use Rattle.flp_report.specs.declared.header.Header.{Header}
+use Rattle.flp_report.specs.declared.shape.Shape.{Shape}
+use Rattle.flp_report.specs.Fault.{met, first_of, ended}
+use Rattle.flp_report.specs.Head.{number_at, numbers_fault, text_end, head_fault}
+use Rattle.flp_report.specs.Shape.{bytes_of}
+use Rattle.flp_report.specs.Pieces.{IsCut}
+use Rattle.flp_report.specs.Batch.{batch_letters, large_fault, claims_fault, records_fault, header_of, claims_of, claims_end, size_of, front_fault, fault_of, whole_records}
+use Rattle.flp_report.specs.Layout.{head_bytes, IsWritable}
+use Rattle.flp_report.specs.Job.{job_letters, job_header_of, job_bytes_of, made_bytes_of, job_large_fault, word_fault, jobs_fault, jobs_of}
+use Rattle.flp_report.proofs.PiecesLemmas.{IsCut-pieces}
+use Rattle.flp_report.proofs.BackLemmas.{reads_back}
+use Rattle.flp_load.specs.Loaded.{IsLoaded}
+use Rattle.flp_batch.specs.Setting.{IsShapeOf}
+use Rattle.flp_jobs.specs.Setting.{JobSetting}
+use Rattle.flp_jobs.specs.File.{HasSetting}
+use Rattle.flp_jobs.specs.Record.{record_shape, made_header, record_made, batch_made}
+use Rattle.flp_jobs.specs.Reply.{IsProvable}
+use Rattle.flp_jobs.specs.Laws.{ReadsBack, BatchesReadBack, IsHonestlyMade, RecordsAreHonest}
+use Rattle.flp_jobs.proofs.SettingLemmas.{circuit-of, IsSetting-from}
+use Rattle.flp_jobs.proofs.PlaceLemmas.{place-good, words-good}
+use Rattle.flp_jobs.proofs.LawLoadedLemmas.{bounded-loaded}
+use Rattle.flp_jobs.proofs.LawRecordLemmas.{IsSound, IsGood, length-record, honestly_made}
+
+-- ---- where no fault is met
+
+no-first : (fault : Option BatchFault) (rest : List (Option BatchFault)) → first_of (fault ∷ rest) ≡ None → (fault ≡ None) × (first_of rest ≡ None)
+no-first None rest none = (refl, none)
+no-first (Some fault) rest none = let no : ⊥ = cc in absurd no
+
+-- none of these
+none-at : (faults : List (Option BatchFault)) (k : ℕ) → first_of faults ≡ None → get_or faults k None ≡ None
+none-at [] k none = refl
+none-at (fault ∷ rest) zero none = (no-first fault rest none).0
+none-at (fault ∷ rest) (suc k) none = none-at rest k (no-first fault rest none).1
+
+none-met : (test : Bool) (fault : BatchFault) → met test fault ≡ None → test ≡ false
+none-met true fault none = let no : ⊥ = cc in absurd no
+none-met false fault none = refl
+
+-- so a number is not above its limit
+none-above : (limit n : ℕ) (fault : BatchFault) → met (ltb limit n) fault ≡ None → n ≤ limit
+none-above limit n fault none = ltb-false limit n (none-met (ltb limit n) fault none)
+
+-- and the input does not end early
+none-short : (before need : ℕ) (rest : List ℕ) → ended before need rest ≡ None → need ≤ before + length rest
+none-short before need rest none =
+    ltb-false (before + length rest) need (none-met (ltb (before + length rest) need) (Truncated (before + length rest) need) none)
+
+-- ---- the head
+
+-- what is tried of its letters and numbers, in this order
+abbrev numbers_tried : List ℕ → List (Option BatchFault)
+numbers_tried bytes =
+    met (not (starts_with nat_eq bytes job_letters)) Magic
+    ∷ met (not (eqb (number_at 8 bytes) 1)) (Version (number_at 8 bytes))
+    ∷ met (ltb (number_at 12 bytes) 2) (Shares (number_at 12 bytes))
+    ∷ met (ltb 16 (number_at 12 bytes)) (Shares (number_at 12 bytes))
+    ∷ met (ltb (number_at 16 bytes) 1) (Proofs (number_at 16 bytes))
+    ∷ met (ltb 16 (number_at 16 bytes)) (Proofs (number_at 16 bytes))
+    ∷ None
+    ∷ met (ltb 65536 (number_at 20 bytes)) (TextLength (number_at 20 bytes))
+    ∷ []
+
+-- its numbers are within their limits, and its text is there
+record IsRight (bytes : List ℕ) : Type 0 where
+  least_shares : 2 ≤ number_at 12 bytes
+  most_shares : number_at 12 bytes ≤ 16
+  least_proofs : 1 ≤ number_at 16 bytes
+  most_proofs : number_at 16 bytes ≤ 16
+  text : number_at 20 bytes ≤ 65536
+  whole : number_at 20 bytes ≤ length (drop 28 bytes)
+
+right-head : (bytes : List ℕ) → head_fault job_letters 28 None bytes ≡ None → IsRight bytes
+right-head bytes none =
+    let tried : List (Option BatchFault) = ended 0 28 bytes ∷ numbers_fault job_letters None bytes ∷ ended 28 (text_end 28 bytes) (drop 28 bytes) ∷ [] in
+    let numbers : first_of (numbers_tried bytes) ≡ None = none-at tried 1 none in
+    let reaches : text_end 28 bytes ≤ 28 + length (drop 28 bytes) = none-short 28 (text_end 28 bytes) (drop 28 bytes) (none-at tried 2 none) in
+    record {
+      least_shares = none-above (number_at 12 bytes) 2 (Shares (number_at 12 bytes)) (none-at (numbers_tried bytes) 2 numbers);
+      most_shares = none-above 16 (number_at 12 bytes) (Shares (number_at 12 bytes)) (none-at (numbers_tried bytes) 3 numbers);
+      least_proofs = none-above (number_at 16 bytes) 1 (Proofs (number_at 16 bytes)) (none-at (numbers_tried bytes) 4 numbers);
+      most_proofs = none-above 16 (number_at 16 bytes) (Proofs (number_at 16 bytes)) (none-at (numbers_tried bytes) 5 numbers);
+      text = none-above 65536 (number_at 20 bytes) (TextLength (number_at 20 bytes)) (none-at (numbers_tried bytes) 7 numbers);
+      whole = omega (arith, reaches);
+    }
+
+-- ---- the file
+
+-- a batch without a fault has none in its head
+none-head : (party : Option ℕ) (shape : Shape) (batch : List ℕ) → fault_of party shape batch ≡ None → head_fault batch_letters 32 party batch ≡ None
+none-head party shape batch none =
+    let front : front_fault party shape batch ≡ None =
+    none-at (front_fault party shape batch ∷ records_fault (claims_end batch) (size_of shape batch) (drop (claims_end batch) batch) ∷ []) 0 none in
+    none-at
+    (
+    head_fault batch_letters 32 party batch
+    ∷ large_fault shape (text_end 32 batch) (number_at 24 batch) (number_at 28 batch)
+    ∷ claims_fault (text_end 32 batch) (number_at 24 batch) (drop (text_end 32 batch) batch)
+    ∷ []
+    ) 0 front
+
+-- where the batch is to be written, its size is not above the limit
+when_written : (size : ℕ) (written : Bool) (fault : BatchFault) → written ≡ true → (if written then met (ltb 1073741824 size) fault else None) ≡ None → size ≤ 1073741824
+when_written size true fault is none = none-above 1073741824 size fault none
+when_written size false fault is none = let no : ⊥ = cc in absurd no
+
+module _ (bytes : List ℕ) (by : JobSetting) (provable : IsProvable bytes by) where
+  has : HasSetting bytes by
+  has = provable.is_file.has
+
+  right : IsRight bytes
+  right = right-head bytes has.head
+
+  pub is_sound : IsSound by
+  is_sound = record {
+    setting = IsSetting-from (job_header_of bytes) by (circuit-of (job_header_of bytes).text by.params by.circuit has.text) has.shape right.least_shares;
+    bounded = bounded-loaded (job_header_of bytes).text by.params by.circuit has.text;
+  }
+
+  abbrev before : ℕ
+  before = text_end 28 bytes
+
+  abbrev count : ℕ
+  count = number_at 24 bytes
+
+  abbrev rest : List ℕ
+  rest = drop (text_end 28 bytes) bytes
+
+  -- what is tried behind the head: the sizes, and then the jobs
+  abbrev tried : List (Option BatchFault)
+  tried =
+      head_fault job_letters 28 None bytes
+      ∷ job_large_fault by.shape before count
+      ∷ jobs_fault by.shape before count rest
+      ∷ []
+
+  abbrev jobs_tried : List (Option BatchFault)
+  jobs_tried =
+      ended before (before + count * job_bytes_of by.shape) rest
+      ∷ met (ltb (before + count * job_bytes_of by.shape) (before + length rest)) Trailing
+      ∷ word_fault by.shape 0 (jobs_of by.shape bytes)
+      ∷ []
+
+  jobs-none : first_of jobs_tried ≡ None
+  jobs-none = none-at tried 2 provable.is_file.no_fault
+
+  whole : length rest ≡ count * job_bytes_of by.shape
+  whole =
+      let reaches : before + count * job_bytes_of by.shape ≤ before + length rest = none-short before (before + count * job_bytes_of by.shape) rest (none-at jobs_tried 0 jobs-none) in
+      let within : before + length rest ≤ before + count * job_bytes_of by.shape =
+      none-above (before + count * job_bytes_of by.shape) (before + length rest) Trailing (none-at jobs_tried 1 jobs-none) in
+      omega (arith, reaches, within)
+
+  words : word_fault by.shape 0 (jobs_of by.shape bytes) ≡ None
+  words = none-at jobs_tried 2 jobs-none
+
+  cut : IsCut (job_bytes_of by.shape) count rest (jobs_of by.shape bytes)
+  cut = IsCut-pieces (job_bytes_of by.shape) count rest whole
+
+  -- each job is good
+  pub jobs-good : All (IsGood by) (jobs_of by.shape bytes)
+  jobs-good =
+      λ (k : ℕ) (none : List ℕ) (below : k < length (jobs_of by.shape bytes)).
+      let jobs = jobs_of by.shape bytes in
+      let job = get_or jobs k none in
+      let at = slice_get-get_or jobs k none below in
+      record { size = cut.sizes k none below; words = words-good by.shape 0 k jobs job words at; place = place-good by 0 k jobs job provable.all_good at }
+
+  -- ---- the batch that is made of it
+
+  abbrev header : Header
+  header = made_header (job_header_of bytes)
+
+  length-text : length header.text ≡ number_at 20 bytes
+  length-text = length-take-le (number_at 20 bytes) (drop 28 bytes) right.whole
+
+  -- what is tried of the sizes, in this order
+  abbrev sizes_tried : List (Option BatchFault)
+  sizes_tried =
+      met (ltb 16777216 (job_bytes_of by.shape)) (TooLarge (job_bytes_of by.shape))
+      ∷ met (ltb 16777216 (made_bytes_of by.shape)) (TooLarge (made_bytes_of by.shape))
+      ∷ met (ltb 1073741824 (before + count * job_bytes_of by.shape)) (TooLarge (before + count * job_bytes_of by.shape))
+      ∷ (if by.shape.written then met (ltb 1073741824 (before + 4 + count * made_bytes_of by.shape)) (TooLarge (before + 4 + count * made_bytes_of by.shape)) else None)
+      ∷ []
+
+  sizes-none : first_of sizes_tried ≡ None
+  sizes-none = none-at tried 1 provable.is_file.no_fault
+
+  -- the batch's own sizes are within its limits
+  made-small : made_bytes_of by.shape ≤ 16777216
+  made-small = none-above 16777216 (made_bytes_of by.shape) (TooLarge (made_bytes_of by.shape)) (none-at sizes_tried 1 sizes-none)
+
+  file-small : before + count * job_bytes_of by.shape ≤ 1073741824
+  file-small =
+      none-above 1073741824 (before + count * job_bytes_of by.shape) (TooLarge (before + count * job_bytes_of by.shape)) (none-at sizes_tried 2 sizes-none)
+
+  batch-small : before + 4 + count * made_bytes_of by.shape ≤ 1073741824
+  batch-small =
+      when_written (before + 4 + count * made_bytes_of by.shape) by.shape.written (TooLarge (before + 4 + count * made_bytes_of by.shape)) has.shape.written
+      (none-at sizes_tried 3 sizes-none)
+
+  fits : large_fault (record_shape by.shape) (32 + length header.text) header.claims header.reports ≡ None
+  fits =
+      let size : 32 + length header.text + 16 * 0 + count * made_bytes_of by.shape ≤ 1073741824 = omega (arith, batch-small, length-text) in
+      rw (le-ltb 16777216 (made_bytes_of by.shape) made-small, le-ltb 1073741824 (32 + length header.text + 16 * 0 + count * made_bytes_of by.shape) size) refl
+
+  -- few jobs are within the limit, since each has 16 bytes or more
+  few : count < 2 ^ 32
+  few =
+      let least : count * 16 ≤ count * job_bytes_of by.shape = mul-le-mul_left count (omega arith) in
+      omega (arith, least, file-small)
+
+  writable : (party : Option ℕ) → IfSome party (λ p. p < by.shape.shares) → IsWritable party header
+  writable party own =
+      let P : ℕ → Type 0 = λ n. IfSome party (λ p. p < n) in
+      record {
+        limits = record {
+          least_shares = right.least_shares;
+          most_shares = right.most_shares;
+          least_proofs = right.least_proofs;
+          most_proofs = right.most_proofs;
+          own_share = subst P has.shape.shares own;
+          text = omega (arith, length-text, right.text);
+        };
+        claims = omega arith;
+        reports = few;
+      }
+
+  abbrev records : List (List ℕ)
+  records = map (record_made by) (jobs_of by.shape bytes)
+
+  records-long : All (λ r. length r ≡ bytes_of (record_shape by.shape)) records
+  records-long =
+      All-map (λ r. length r ≡ bytes_of (record_shape by.shape)) (record_made by) (jobs_of by.shape bytes)
+      (All-weaker (IsGood by) (λ job. length (record_made by job) ≡ bytes_of (record_shape by.shape)) (λ job good. length-record by job is_sound good) (jobs_of by.shape bytes) jobs-good)
+
+  records-many : length records ≡ count
+  records-many = length-map (jobs_of by.shape bytes) (record_made by) ∙ cut.number
+
+  -- with this shape, behind the same text
+  shaped : IsShapeOf header by.circuit (record_shape by.shape)
+  shaped = record {
+    shares = has.shape.shares;
+    proofs = has.shape.proofs;
+    meas = has.shape.meas;
+    joint = has.shape.joint;
+    query = has.shape.query;
+    proof = has.shape.proof;
+  }
+
+  -- what is read of it
+  abbrev IsRead : Option ℕ → List ℕ → Type 0
+  IsRead party batch =
+      (fault_of party (record_shape by.shape) batch ≡ None) × (header_of batch ≡ header) × (claims_of batch ≡ []) × (whole_records party (record_shape by.shape) batch ≡ records)
+
+  is_read : (party : Option ℕ) → IfSome party (λ p. p < by.shape.shares) → IsRead party (batch_made by bytes)
+  is_read party own =
+      subst (λ (front : List ℕ). IsRead party (front ++ concat records)) (append-nil (head_bytes header))
+      (reads_back party (record_shape by.shape) header [] records (writable party own) fits refl refl records-long records-many)
+
+  pub reads-back : (party : Option ℕ) → IfSome party (λ p. p < by.shape.shares) → ReadsBack party by bytes
+  reads-back party own =
+      let batch = batch_made by bytes in
+      let read = is_read party own in
+      let P : Header → Type 0 = λ h. IsLoaded h.text by.params by.circuit in
+      let Q : Header → Type 0 = λ h. IsShapeOf h by.circuit (record_shape by.shape) in
+      record {
+        is_batch = record {
+          has = record {
+            head = none-head party (record_shape by.shape) batch read.0;
+            text = subst P (sym read.1) has.text;
+            shape = subst Q (sym read.1) shaped;
+            claims = read.2;
+          };
+          no_fault = read.0;
+        };
+        records = read.3;
+      }
+
+-- ---- the laws
+
+pub records_are_honest : RecordsAreHonest
+records_are_honest bytes by provable =
+    All-weaker (IsGood by) (IsHonestlyMade by) (λ job good. honestly_made by job (is_sound bytes by provable) good) (jobs_of by.shape bytes) (jobs-good bytes by provable)
+
+pub batches_read_back : BatchesReadBack
+batches_read_back party bytes by provable own = reads-back bytes by provable party own

@@ -1,0 +1,61 @@
+use Rattle.std.proofs.Common.{◌≡◌, ℕ, ◌≤◌, List, length, map, ap₂, subst, ◌∙◌, arith}
+use Rattle.std.specs.List.{concat}
+use Rattle.std.specs.Io.KnownBytes.{Appends}
+use Rattle.flp_io.specs.Writes.{TakesPrefix}
+use Rattle.flp_io.proofs.WriteLemmas.{TakesPrefix-whole}
+use Rattle.flp_report.specs.JobParts.{jobs_in, job_of}
+use Rattle.flp_report.specs.Layout.{record_bytes}
+use Rattle.flp_jobs.specs.Reading.{setting_of}
+use Rattle.flp_jobs.specs.Record.{record_made}
+use Rattle.flp_jobs.proofs.PlaceLemmas.{place-good}
+use Rattle.flp_jobs.proofs.RecordLemmas.{made-all, Appends-more, TakesPrefix-made}
+use Rattle.flp_jobs.proofs.FileLemmas.{IsJobOf-numbered, count-jobs}
+use Rattle.flp_jobs.proofs.command.write_records.Goals as goal
+
+pub make-requires-clause-job : goal.make-requires-clause-job
+make-requires-clause-job g c =
+    IsJobOf-numbered c.args.file.now c.job_at-job.result c.loop-number.number c.requires.whole c.job_at-job.ensures.shape c.job_at-job.ensures.numbered
+
+pub make-requires-clause-good : goal.make-requires-clause-good
+make-requires-clause-good g c =
+    let file = c.args.file.now in
+    place-good (setting_of file) 0 c.loop-number.number (jobs_in file.jobs) (job_of c.job_at-job.result) c.requires.good c.job_at-job.ensures.numbered
+
+pub returns-in-Err-clause-front : goal.returns-in-Err-clause-front
+returns-in-Err-clause-front g c =
+    let file = c.args.file.now in
+    let job = job_of c.job_at-job.result in
+    let made : record_bytes c.nonce.result.now c.words.result.now ≡ record_made (setting_of file) job =
+    ap₂ (λ (nonce words : List ℕ). record_bytes nonce words) c.nonce.ensures (c.words.ensures ∙ c.make.ensures.words) in
+    TakesPrefix-made (record_made (setting_of file)) (jobs_in file.jobs) _ _ _ c.loop-number.number job c.job_at-job.ensures.numbered c.loop-number.invariant.bytes
+    (subst (λ (l : List ℕ). TakesPrefix (g.K.Sink.taken c.loop-number.output) (g.K.Sink.taken c.write_record.new.sink) l) made c.write_record.ensures.front)
+
+pub loop-number-preserved : goal.loop-number-preserved
+loop-number-preserved g c =
+    let file = c.args.file.now in
+    let job = job_of c.job_at-job.result in
+    let made : record_bytes c.nonce.result.now c.words.result.now ≡ record_made (setting_of file) job =
+    ap₂ (λ (nonce words : List ℕ). record_bytes nonce words) c.nonce.ensures (c.words.ensures ∙ c.make.ensures.words) in
+    record {
+      made = c.make.ensures.again;
+      bytes = Appends-more (record_made (setting_of file)) (jobs_in file.jobs) _ _ _ c.loop-number.number job c.job_at-job.ensures.numbered c.loop-number.invariant.bytes
+          (subst (λ (l : List ℕ). Appends (g.K.Sink.taken c.loop-number.output) (g.K.Sink.taken c.write_record.new.sink) l) made c.in-Ok.ensures.bytes);
+      later = omega (arith, c.loop-number.invariant.later, c.write_record.ensures.cause.later);
+    }
+
+pub returns-clause-bytes : goal.returns-clause-bytes
+returns-clause-bytes g c =
+    let file = c.args.file.now in
+    let count = count-jobs file c.requires.whole in
+    let all : length (jobs_in file.jobs) ≤ c.loop-number.number = omega (arith, count, c.loop-number-test.false) in
+    subst (λ (l : List ℕ). Appends (g.K.Sink.taken c.args.output.now) (g.K.Sink.taken c.loop-number.output) l)
+    (made-all (record_made (setting_of file)) (jobs_in file.jobs) c.loop-number.number all) c.loop-number.invariant.bytes
+
+pub returns-clause-front : goal.returns-clause-front
+returns-clause-front g c =
+    let file = c.args.file.now in
+    let count = count-jobs file c.requires.whole in
+    let all : length (jobs_in file.jobs) ≤ c.loop-number.number = omega (arith, count, c.loop-number-test.false) in
+    TakesPrefix-whole _ _ (concat (map (record_made (setting_of file)) (jobs_in file.jobs)))
+    (subst (λ (l : List ℕ). Appends (g.K.Sink.taken c.args.output.now) (g.K.Sink.taken c.loop-number.output) l)
+    (made-all (record_made (setting_of file)) (jobs_in file.jobs) c.loop-number.number all) c.loop-number.invariant.bytes)
