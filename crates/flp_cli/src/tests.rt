@@ -14,6 +14,8 @@ const VERIFY: [&str; 4] = ["flp", "verify", "--workers", "1"];
 
 const LENGTHS: [&str; 2] = ["flp", "lengths"];
 
+const PROVE: [&str; 2] = ["flp", "prove"];
+
 const EXPLAIN: [&str; 2] = ["flp", "explain"];
 
 // How the file of a batch begins, up to the number of reports.
@@ -489,7 +491,7 @@ fn each_write_fails_in_turn(rt: HostRuntime) -> Result<(), Fail> {
 // that are cut, and the status, which stays.
 #[test]
 fn faults_of_errors_change_no_status(rt: HostRuntime) -> Result<(), Fail> {
-    let runs: [(&[&str], u64, u64, usize, u8); 8] = [
+    let runs: [(&[&str], u64, u64, usize, u8); 9] = [
         (&VERIFY, 99, 99, 162, 0),
         (&["flp"], 99, 99, 162, 2),
         (&VERIFY, 0, 99, 162, 4),
@@ -498,6 +500,7 @@ fn faults_of_errors_change_no_status(rt: HostRuntime) -> Result<(), Fail> {
         (&VERIFY, 99, 99, 1, 6),
         (&LENGTHS, 99, 99, 162, 7),
         (&EXPLAIN, 99, 99, 161, 6),
+        (&PROVE, 99, 99, 162, 6),
     ];
     for (words, read, write, size, wanted) in runs {
         let mut bytes = batch(rt.alloc(), &[(0, HONEST)])?;
@@ -600,6 +603,133 @@ fn explanations(rt: HostRuntime) -> Result<(), Fail> {
             .as_slice()
     );
     assert_eq!(rt; errors.taken(), b"".as_slice());
+    Ok(())
+}
+
+// A job file of one job: the words of the shares from 1 on are all 1, and there are so many of them.
+#[derive(Drop)]
+struct Task<'a> {
+    text: &'a [u8],
+    shares: u8,
+    proofs: u8,
+    input: &'a [u64],
+    given: usize,
+    own: &'a [u64],
+    status: u8,
+    line: &'a [u8],
+}
+
+fn push_words(bytes: &mut Vec<u8>, words: &[u64]) -> Result<(), AllocError> {
+    for word in words {
+        bytes.extend_from_slice(&word.to_le_bytes())?;
+    }
+    Ok(())
+}
+
+fn job_file(alloc: Global, task: &Task) -> Result<Vec<u8>, AllocError> {
+    let mut bytes = b"FLPTASKS\x01\0\0\0".to_vec(alloc)?;
+    for number in [task.shares, task.proofs, task.text.len() as u8, 1] {
+        bytes.extend_from_slice(&[number, 0, 0, 0])?;
+    }
+    bytes.extend_from_slice(task.text)?;
+    bytes.extend_from_slice(&NONCE)?;
+    push_words(&mut bytes, task.input)?;
+    for _ in 0..task.given {
+        push_words(&mut bytes, &[1])?;
+    }
+    push_words(&mut bytes, task.own)?;
+    Ok(bytes)
+}
+
+// What `prove` answers and says of job files; `verify` accepts each batch that it writes.
+#[test]
+fn batches_of_jobs(rt: HostRuntime) -> Result<(), Fail> {
+    let tasks = [
+        Task {
+            text: b"use count;",
+            shares: 2,
+            proofs: 1,
+            input: &[1],
+            given: 6,
+            own: &[3, 5, 2],
+            status: 0,
+            line: b"",
+        },
+        Task {
+            text: b"use count;",
+            shares: 3,
+            proofs: 2,
+            input: &[1],
+            given: 22,
+            own: &[3, 5, 4, 6, 2, 3],
+            status: 0,
+            line: b"",
+        },
+        Task {
+            text: b"use count;",
+            shares: 2,
+            proofs: 1,
+            input: &[2],
+            given: 6,
+            own: &[3, 5, 2],
+            status: 8,
+            line: b"flp: place 0: range 0 2\n",
+        },
+        Task {
+            text: b"use count;",
+            shares: 2,
+            proofs: 1,
+            input: &[1],
+            given: 6,
+            own: &[3, 5, P],
+            status: 6,
+            line: b"flp: job: word 0 9\n",
+        },
+        Task {
+            text: b"use multihot length=4 weight=2 chunk=2;",
+            shares: 2,
+            proofs: 1,
+            input: &[1, 1, 1, 0],
+            given: 17,
+            own: &[1, 1, 1, 1, 1, 1, 1, 1, 1, 2],
+            status: 8,
+            line: b"flp: place 0: weight 3\n",
+        },
+        Task {
+            text: b"meas 1; joint 0; gadget g = mul; check 0; check g(meas[0], meas[0]); out meas[0];",
+            shares: 2,
+            proofs: 1,
+            input: &[3],
+            given: 6,
+            own: &[1, 1, 1, 1, 2],
+            status: 8,
+            line: b"flp: place 0: check 1 of proof 0\n",
+        },
+    ];
+    for task in &tasks {
+        let mut input = source(rt.alloc(), job_file(rt.alloc(), task)?);
+        let mut output = sink(rt.alloc())?;
+        let mut errors = sink(rt.alloc())?;
+        let status = run_on(
+            &rt,
+            rt.alloc(),
+            &PROVE,
+            &mut input,
+            &mut output,
+            &mut errors,
+        )?;
+        assert_eq!(rt; status, task.status);
+        assert_eq!(rt; errors.taken(), task.line);
+        if status == 0 {
+            let mut made = source(rt.alloc(), output.taken().to_vec(rt.alloc())?);
+            let mut text = sink(rt.alloc())?;
+            let verified = run_on(&rt, rt.alloc(), &VERIFY, &mut made, &mut text, &mut errors)?;
+            assert_eq!(rt; verified, 0);
+            assert_eq!(rt; text.taken(), TEXT);
+        } else {
+            assert_eq!(rt; output.taken(), b"".as_slice());
+        }
+    }
     Ok(())
 }
 
