@@ -73,9 +73,13 @@ place_text (place.Range number value) = paired (codes "range ") number value
 place_text (place.Weight count) = numbered (codes "weight ") count
 place_text (place.Check check proof) = numbered (codes "check ") check ++ numbered (codes " of proof ") proof
 
+-- how the line of a bad place begins
+abbrev pub place_beginning : ℕ → List ℕ
+place_beginning place = numbered (codes "flp: place ") place ++ codes ": "
+
 -- the line of a bad place
 abbrev pub place_line : ℕ → PlaceFault → List ℕ
-place_line place fault = numbered (codes "flp: place ") place ++ codes ": " ++ place_text fault ++ codes "\n"
+place_line place fault = place_beginning place ++ place_text fault ++ codes "\n"
 
 -- the exit status of each fault of `prove`
 abbrev pub prove_status : ProveFault → ℕ

@@ -2,7 +2,7 @@
 ghost use Rattle.std.specs.Prelude.{◌≡◌, OnOk};
 ghost use Rattle.std.specs.Io.KnownBytes.{Appends};
 ghost use Rattle.flp_io.specs.Faults.{HasCause};
-ghost use Rattle.flp_cli.specs.Answers.{file_status, batch_status, engine_line, place_text, place_line, prove_status, prove_line, lengths_status, lengths_line, memory_line, usage_line};
+ghost use Rattle.flp_cli.specs.Answers.{file_status, batch_status, engine_line, place_text, place_beginning, place_line, prove_status, prove_line, lengths_status, lengths_line, memory_line, usage_line};
 
 use flp_io::{Failed, Sink, put};
 use flp_jobs::{PlaceFault, ProveFault};
@@ -73,7 +73,7 @@ pub fn put_prove_fault<E: Sink>(errors: &mut E, fault: ProveFault) -> Result<(),
         ProveFault::Write => put(errors, b"flp: write fault\n"),
         ProveFault::File(fault) => put_job_fault(errors, fault),
         ProveFault::Circuit(fault) => put_circuit_fault(errors, fault),
-        ProveFault::Place(place, fault) => put_place_fault(errors, place, fault),
+        ProveFault::Place(place, fault) => put_place_fault(errors, u64::from(place), fault),
     }
 }
 
@@ -120,14 +120,23 @@ fn put_place_text<E: Sink>(errors: &mut E, fault: PlaceFault) -> Result<(), Fail
     }
 }
 
+/// Writes how the line of a bad place begins.
+#[tactic(auto, using(flp_io::proofs::WriteLemmas::writes_join))]
+fn put_place_beginning<E: Sink>(errors: &mut E, place: u64) -> Result<(), Failed>
+    ensures bytes { OnOk result (Appends (E.taken errors.old) (E.taken errors.new) (place_beginning place)) }
+    ensures cause { HasCause (E.faults errors.old) (E.faults errors.new) result }
+{
+    put_numbered(errors, b"flp: place ", place)?;
+    put(errors, b": ")
+}
+
 /// Writes the line of a bad place. It takes no memory.
 #[tactic(auto, using(flp_io::proofs::WriteLemmas::writes_join))]
-fn put_place_fault<E: Sink>(errors: &mut E, place: u32, fault: PlaceFault) -> Result<(), Failed>
+fn put_place_fault<E: Sink>(errors: &mut E, place: u64, fault: PlaceFault) -> Result<(), Failed>
     ensures bytes { OnOk result (Appends (E.taken errors.old) (E.taken errors.new) (place_line place fault)) }
     ensures cause { HasCause (E.faults errors.old) (E.faults errors.new) result }
 {
-    put_numbered(errors, b"flp: place ", u64::from(place))?;
-    put(errors, b": ")?;
+    put_place_beginning(errors, place)?;
     put_place_text(errors, fault)?;
     put(errors, b"\n")
 }
