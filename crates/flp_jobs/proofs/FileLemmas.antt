@@ -177,23 +177,27 @@ end-refused r (read.Batch b) shape place count left mid jobs gone same number sm
     let first = trailing.0 in
     let last : b ≡ Trailing = cc in
     let whole : length bytes ≡ count * job_bytes_of shape = length-jobs jobs shape count same number in
-    inr (small,
-    IfSome-before (λ rest. jobs_fault shape place count rest ≡ Some b) (λ rest. rest ≢ []) left mid bytes gone trailing.1
-    (λ rest some.
-    let more = some-byte rest some in
-    let long = length-append bytes rest in
-    jobs_fault-trailing shape place count (bytes ++ rest) (omega (arith, whole, long, more)) ∙ ap Some (sym last)))
+    inr (
+      small,
+      IfSome-before (λ rest. jobs_fault shape place count rest ≡ Some b) (λ rest. rest ≢ []) left mid bytes gone trailing.1
+          (λ rest some.
+          let more = some-byte rest some in
+          let long = length-append bytes rest in
+          jobs_fault-trailing shape place count (bytes ++ rest) (omega (arith, whole, long, more)) ∙ ap Some (sym last)),
+    )
 end-refused r (read.Batch b) shape place count left mid jobs gone same number small is (inr (inr bad)) =
     let bytes = jobs_bytes jobs in
     let first = bad.1 in
     let last : b ≡ bad.0 = cc in
     let whole : length bytes ≡ count * job_bytes_of shape = length-jobs jobs shape count same number in
-    inr (small,
-    Consumes-whole left mid bytes (λ rest. jobs_fault shape place count rest ≡ Some b) gone bad.2
-    (jobs_fault-words shape place count bytes whole
-    ∙ (ap (λ (l : List (List ℕ)). word_fault shape 0 l) (sym (jobs-same jobs shape count same number))
-    ∙ (ap (λ (s : JobShape). word_fault s 0 (jobs_in jobs)) (sym same)
-    ∙ (bad.3 ∙ ap Some (sym last))))))
+    inr (
+      small,
+      Consumes-whole left mid bytes (λ rest. jobs_fault shape place count rest ≡ Some b) gone bad.2
+          (jobs_fault-words shape place count bytes whole
+          ∙ (ap (λ (l : List (List ℕ)). word_fault shape 0 l) (sym (jobs-same jobs shape count same number))
+          ∙ (ap (λ (s : JobShape). word_fault s 0 (jobs_in jobs)) (sym same)
+          ∙ (bad.3 ∙ ap Some (sym last))))),
+    )
 
 -- ---- how many bytes are asked for
 
