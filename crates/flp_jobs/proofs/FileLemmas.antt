@@ -19,7 +19,7 @@ use Rattle.flp_report.specs.declared.job.Job.{Job}
 use Rattle.flp_report.specs.Fault.{IfBatch}
 use Rattle.flp_report.specs.Head.{head_fault, number_at}
 use Rattle.flp_report.specs.Pieces.{pieces}
-use Rattle.flp_report.specs.Job.{job_letters, job_header_of, job_bytes_of, job_large_fault, jobs_fault, word_fault, job_fault_of, jobs_of, IsJobHead}
+use Rattle.flp_report.specs.Job.{job_letters, job_bytes_of, job_large_fault, jobs_fault, word_fault, jobs_of, IsJobHead}
 use Rattle.flp_report.specs.Reads.{ConsumesAtMost}
 use Rattle.flp_report.specs.JobParts.{jobs_shape, jobs_count, jobs_bytes, jobs_in, job_of, job_shape_of}
 use Rattle.flp_report.proofs.HeadLemmas.{length-text}
@@ -32,7 +32,7 @@ use Rattle.flp_jobs.specs.declared.fault.ProveFault.TheVariants.{File, Circuit}
 use Rattle.flp_jobs.specs.declared.file.JobFile.{JobFile}
 use Rattle.flp_jobs.specs.Fault.{fault_from, fault_of_text, IfInput}
 use Rattle.flp_jobs.specs.Setting.{JobSetting, IsJobShapeOf}
-use Rattle.flp_jobs.specs.File.{HasSetting, IsJobFile, IsTextFault, IsFileFault}
+use Rattle.flp_jobs.specs.File.{HasSetting, IsTextFault, IsFileFault}
 use Rattle.flp_jobs.specs.Record.{made_header}
 use Rattle.flp_jobs.specs.Reading.{IsRefusedBehind, setting_of, Reads, IsWhole, IsJobOf}
 use Rattle.flp_jobs.proofs.PlaceLemmas.{words-good}
