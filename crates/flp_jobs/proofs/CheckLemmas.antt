@@ -1,5 +1,5 @@
 -- The search for a check that is not 0.
-use Rattle.std.proofs.Common.{◌≡◌, ℕ, suc, ◌+◌, ◌≤◌, Bool, true, false, cond, List, [], ◌∷◌, length, drop, get_or, Option, Some, None, refl, sym, ap, subst, ◌∙◌, eqb, arith}
+use Rattle.std.proofs.Common.{◌≡◌, ℕ, ◌+◌, ◌≤◌, Bool, true, false, cond, List, length, drop, get_or, Option, Some, None, ap, ◌∙◌, eqb}
 use Rattle.std.specs.Prelude.{not}
 use Rattle.std.specs.List.{slice_get, position_from}
 use Rattle.std.proofs.lemmas.List.{drop_more, drop_all}

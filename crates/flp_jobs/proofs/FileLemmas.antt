@@ -19,7 +19,7 @@ use Rattle.flp_report.specs.declared.job.Job.{Job}
 use Rattle.flp_report.specs.Fault.{IfBatch}
 use Rattle.flp_report.specs.Head.{head_fault, number_at}
 use Rattle.flp_report.specs.Pieces.{pieces}
-use Rattle.flp_report.specs.Job.{job_letters, job_header_of, job_bytes_of, job_large_fault, jobs_fault, word_fault, job_fault_of, jobs_of, IsJobHead}
+use Rattle.flp_report.specs.Job.{job_letters, job_bytes_of, job_large_fault, jobs_fault, word_fault, jobs_of, IsJobHead}
 use Rattle.flp_report.specs.Reads.{ConsumesAtMost}
 use Rattle.flp_report.specs.JobParts.{jobs_shape, jobs_count, jobs_bytes, jobs_in, job_of, job_shape_of}
 use Rattle.flp_report.proofs.HeadLemmas.{length-text}
@@ -32,7 +32,7 @@ use Rattle.flp_jobs.specs.declared.fault.ProveFault.TheVariants.{File, Circuit}
 use Rattle.flp_jobs.specs.declared.file.JobFile.{JobFile}
 use Rattle.flp_jobs.specs.Fault.{fault_from, fault_of_text, IfInput}
 use Rattle.flp_jobs.specs.Setting.{JobSetting, IsJobShapeOf}
-use Rattle.flp_jobs.specs.File.{HasSetting, IsJobFile, IsTextFault, IsFileFault}
+use Rattle.flp_jobs.specs.File.{HasSetting, IsTextFault, IsFileFault}
 use Rattle.flp_jobs.specs.Record.{made_header}
 use Rattle.flp_jobs.specs.Reading.{IsRefusedBehind, setting_of, Reads, IsWhole, IsJobOf}
 use Rattle.flp_jobs.proofs.PlaceLemmas.{words-good}
@@ -177,23 +177,27 @@ end-refused r (read.Batch b) shape place count left mid jobs gone same number sm
     let first = trailing.0 in
     let last : b ≡ Trailing = cc in
     let whole : length bytes ≡ count * job_bytes_of shape = length-jobs jobs shape count same number in
-    inr (small,
-    IfSome-before (λ rest. jobs_fault shape place count rest ≡ Some b) (λ rest. rest ≢ []) left mid bytes gone trailing.1
-    (λ rest some.
-    let more = some-byte rest some in
-    let long = length-append bytes rest in
-    jobs_fault-trailing shape place count (bytes ++ rest) (omega (arith, whole, long, more)) ∙ ap Some (sym last)))
+    inr (
+      small,
+      IfSome-before (λ rest. jobs_fault shape place count rest ≡ Some b) (λ rest. rest ≢ []) left mid bytes gone trailing.1
+          (λ rest some.
+          let more = some-byte rest some in
+          let long = length-append bytes rest in
+          jobs_fault-trailing shape place count (bytes ++ rest) (omega (arith, whole, long, more)) ∙ ap Some (sym last)),
+    )
 end-refused r (read.Batch b) shape place count left mid jobs gone same number small is (inr (inr bad)) =
     let bytes = jobs_bytes jobs in
     let first = bad.1 in
     let last : b ≡ bad.0 = cc in
     let whole : length bytes ≡ count * job_bytes_of shape = length-jobs jobs shape count same number in
-    inr (small,
-    Consumes-whole left mid bytes (λ rest. jobs_fault shape place count rest ≡ Some b) gone bad.2
-    (jobs_fault-words shape place count bytes whole
-    ∙ (ap (λ (l : List (List ℕ)). word_fault shape 0 l) (sym (jobs-same jobs shape count same number))
-    ∙ (ap (λ (s : JobShape). word_fault s 0 (jobs_in jobs)) (sym same)
-    ∙ (bad.3 ∙ ap Some (sym last))))))
+    inr (
+      small,
+      Consumes-whole left mid bytes (λ rest. jobs_fault shape place count rest ≡ Some b) gone bad.2
+          (jobs_fault-words shape place count bytes whole
+          ∙ (ap (λ (l : List (List ℕ)). word_fault shape 0 l) (sym (jobs-same jobs shape count same number))
+          ∙ (ap (λ (s : JobShape). word_fault s 0 (jobs_in jobs)) (sym same)
+          ∙ (bad.3 ∙ ap Some (sym last))))),
+    )
 
 -- ---- how many bytes are asked for
 

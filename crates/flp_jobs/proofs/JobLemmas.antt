@@ -1,5 +1,5 @@
 -- The parts of a job: how long they are, and that they hold words of the field.
-use Rattle.std.proofs.Common.{◌≡◌, ℕ, ◌+◌, ◌-◌, ◌*◌, ◌<◌, ◌≤◌, List, [], ◌∷◌, length, take, drop, Option, Some, None, true, false, nat_le, if◌then◌else◌, Bool, refl, sym, ap, ap₂, subst, ◌∙◌, ⊎_elim, arith}
+use Rattle.std.proofs.Common.{◌≡◌, ℕ, ◌+◌, ◌-◌, ◌*◌, ◌<◌, ◌≤◌, List, [], ◌∷◌, length, take, drop, Some, None, true, false, nat_le, if◌then◌else◌, Bool, refl, sym, ap, ap₂, subst, ◌∙◌, ⊎_elim, arith}
 use Rattle.std.specs.List.{All, position_from}
 use Rattle.std.proofs.lemmas.Bool.{cases_Bool, leb-false}
 use Rattle.std.proofs.lemmas.List.{drop-drop}
@@ -11,7 +11,7 @@ use Rattle.flp_report.specs.Words.{words}
 use Rattle.flp_report.specs.Job.{job_part_of, job_words_of, job_bytes_of, free_words, job_bad_word}
 use Rattle.flp_report.specs.JobParts.{input_in, parts_in, seeds_word, seeds_start, seeds_in, job_own_word, job_own_start, job_joint_in, job_query_in}
 use Rattle.flp_report.proofs.WordPartsLemmas.{words-part, one_fits}
-use Rattle.flp_jobs.specs.Encoding.{job_input, given_words, job_seeds, job_joint, job_query}
+use Rattle.flp_jobs.specs.Encoding.{job_input, given_words, job_seeds, job_joint}
 
 -- where no number is found to be bad, each is a word
 words-from : (i : ℕ) (numbers : List ℕ) → position_from (λ n. nat_le modulus n) i numbers ≡ None → All IsWord numbers

@@ -1,5 +1,5 @@
 -- No measurement of a job is refused for how many numbers it has.
-use Rattle.std.proofs.Common.{◌≡◌, ℕ, suc, Bool, true, false, cond, List, [], ◌∷◌, length, Option, Some, None, nat_lt, nat_le, refl, sym, ap, subst, ◌∙◌, eq-eqb}
+use Rattle.std.proofs.Common.{◌≡◌, ℕ, suc, Bool, true, false, cond, List, [], ◌∷◌, length, Option, Some, None, nat_lt, nat_le, sym, ap, ◌∙◌, eq-eqb}
 use Rattle.std.specs.Option.{option_or}
 use Rattle.flp_syntax.specs.declared.syntax.Params.{Params}
 use Rattle.flp_syntax.specs.declared.syntax.Params.TheVariants.{Count, Sum, SumVec, Histogram, Multihot}
@@ -8,7 +8,6 @@ use Rattle.flp_circuits.specs.declared.fault.MeasFault.{MeasFault}
 use Rattle.flp_circuits.specs.declared.fault.MeasFault.TheVariants as meas
 use Rattle.flp_circuits.specs.Sizes.{input_len_of}
 use Rattle.flp_circuits.specs.Encoding.{range_of, range_fault, weight_of, weight_fault, meas_fault}
-use Rattle.flp_report.specs.declared.job_shape.JobShape.{JobShape}
 use Rattle.flp_report.specs.JobParts.{input_in}
 use Rattle.flp_report.proofs.WordsLemmas.{length-words}
 use Rattle.flp_jobs.specs.Setting.{JobSetting, input_count, IsSetting}

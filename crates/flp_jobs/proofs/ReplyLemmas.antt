@@ -1,5 +1,5 @@
 -- From what was made of the jobs that were read to what is said of all bytes of the file.
-use Rattle.std.proofs.Common.{◌≡◌, ℕ, ◌++◌, List, map, Option, Some, None, refl, sym, ap, ap₂, subst, ◌∙◌}
+use Rattle.std.proofs.Common.{◌≡◌, ℕ, ◌++◌, List, map, Option, Some, None, sym, ap, ap₂, subst, ◌∙◌}
 use Rattle.std.specs.Prelude.{IfSome}
 use Rattle.std.specs.List.{concat}
 use Rattle.std.specs.Io.KnownBytes.{Appends}
@@ -7,15 +7,14 @@ use Rattle.std.proofs.KnownBytes.{Consumes-whole}
 use Rattle.flp_io.specs.Writes.{TakesPrefix}
 use Rattle.flp_report.specs.declared.header.Header.{Header}
 use Rattle.flp_report.specs.Layout.{head_bytes}
-use Rattle.flp_report.specs.Job.{job_header_of, jobs_of}
 use Rattle.flp_report.specs.JobParts.{jobs_in}
 use Rattle.flp_jobs.specs.declared.fault.PlaceFault.{PlaceFault}
 use Rattle.flp_jobs.specs.declared.fault.ProveFault.TheVariants.{Place}
 use Rattle.flp_jobs.specs.declared.file.JobFile.{JobFile}
 use Rattle.flp_jobs.specs.Place.{bad_place}
-use Rattle.flp_jobs.specs.Record.{made_header, record_made, batch_made}
+use Rattle.flp_jobs.specs.Record.{record_made, batch_made}
 use Rattle.flp_jobs.specs.Reading.{setting_of, Reads}
-use Rattle.flp_jobs.specs.Reply.{IsProvable, IsBadPlace, IsRefusal, WritesBatch, StopsInBatch}
+use Rattle.flp_jobs.specs.Reply.{IsProvable, IsRefusal, WritesBatch, StopsInBatch}
 
 -- the batch that is written of what was read
 abbrev pub batch_written : JobFile → List ℕ

@@ -1,13 +1,11 @@
 -- A whole file: the job file that it is, or its first fault. From what its head says up.
-use Rattle.std.specs.Prelude.{ℕ, ◌≡◌, ◌⊎◌, List, Option, None, Some}
+use Rattle.std.specs.Prelude.{ℕ, ◌≡◌, ◌⊎◌, List, None, Some}
 use Rattle.flp_load.specs.declared.fault.CircuitFault.{CircuitFault}
 use Rattle.flp_load.specs.Loaded.{IsLoaded}
 use Rattle.flp_load.specs.Fault.{IsCircuitFault}
 use Rattle.flp_report.specs.declared.fault.BatchFault.{BatchFault}
 use Rattle.flp_report.specs.Head.{head_fault}
 use Rattle.flp_report.specs.Job.{job_letters, job_header_of, job_fault_of}
-use Rattle.flp_jobs.specs.declared.fault.ProveFault.{ProveFault}
-use Rattle.flp_jobs.specs.declared.fault.ProveFault.TheVariants.{Memory, Read, Write, File, Circuit, Place}
 use Rattle.flp_jobs.specs.Setting.{JobSetting, IsJobShapeOf}
 
 -- the head of a file has no fault, its text is loaded as a circuit, and this is the setting of its jobs

@@ -1,11 +1,10 @@
 -- What is made is a batch of honest reports. From one record up to the file.
-use Rattle.std.specs.Prelude.{ℕ, ◌≡◌, ◌<◌, List, [], Option, Some, None, IfSome, map}
+use Rattle.std.specs.Prelude.{ℕ, ◌≡◌, ◌<◌, List, [], Option, None, IfSome, map}
 use Rattle.std.specs.List.{All}
-use Rattle.flp_syntax.specs.declared.syntax.Params.{Params}
 use Rattle.flp_meaning.specs.Circuit.{IsValid}
 use Rattle.flp_report.specs.Record.{words_in}
 use Rattle.flp_report.specs.Words.{bad_word_in}
-use Rattle.flp_report.specs.Job.{job_header_of, jobs_of}
+use Rattle.flp_report.specs.Job.{jobs_of}
 use Rattle.flp_report.specs.Batch.{whole_records}
 use Rattle.flp_worker.specs.Parts.{joint_words, query_words, unshared_encoding, unshared_proof}
 use Rattle.flp_verdict.specs.Laws.{IsHonest}

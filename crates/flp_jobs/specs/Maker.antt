@@ -1,7 +1,5 @@
 -- The room for judging places and making records, one after another.
-use Rattle.std.specs.Prelude.{ℕ, ◌≡◌, ◌-◌, ◌*◌, vec_len, length}
-use Rattle.flp_meaning.specs.Gadgets.{call_count}
-use Rattle.flp_plan.specs.View.{Compiled}
+use Rattle.std.specs.Prelude.{◌≡◌, ◌-◌, ◌*◌, vec_len}
 use Rattle.flp_report.specs.Shape.{words_of}
 use Rattle.flp_report.specs.Job.{job_part_of}
 use Rattle.flp_prove.specs.Room.{Serves}

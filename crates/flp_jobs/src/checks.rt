@@ -62,13 +62,7 @@ impl Checker {
         ensures again { self.new ≡ self.old }
     {
         plan.publics(joint, &mut self.publics);
-        write_answers(
-            plan,
-            &self.publics,
-            x,
-            &mut self.inputs,
-            &mut self.answers,
-        );
+        write_answers(plan, &self.publics, x, &mut self.inputs, &mut self.answers);
         first_failing(plan, &self.publics, x, &self.answers)
     }
 }

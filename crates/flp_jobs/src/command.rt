@@ -39,11 +39,7 @@ fn bad_place(file: &JobFile, maker: &mut Maker) -> Option<(u32, PlaceFault)>
 }
 
 /// Makes and writes the records of all jobs, where no place is bad.
-fn write_records<K: Sink>(
-    file: &JobFile,
-    maker: &mut Maker,
-    output: &mut K,
-) -> Result<(), Failed>
+fn write_records<K: Sink>(file: &JobFile, maker: &mut Maker, output: &mut K) -> Result<(), Failed>
     requires whole { IsWhole file.now }
     requires made { IsMadeFor file.now maker.old }
     requires good { place.bad_place (setting_of file.now) 0 (jobs_in file.now.jobs) ≡ None }

@@ -6,8 +6,7 @@ use std::alloc::{AllocError, Global};
 use std::test::Fail;
 
 // A head with two shares, one proof and one job, and the text.
-const HEAD: &[u8] =
-    b"FLPTASKS\x01\0\0\0\x02\0\0\0\x01\0\0\0\x0a\0\0\0\x01\0\0\0use count;";
+const HEAD: &[u8] = b"FLPTASKS\x01\0\0\0\x02\0\0\0\x01\0\0\0\x0a\0\0\0\x01\0\0\0use count;";
 
 const NONCE: &[u8] = &[0, 1, 2, 3, 4, 5, 6, 7, 8, 9, 10, 11, 12, 13, 14, 15];
 

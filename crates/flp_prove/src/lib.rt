@@ -4,7 +4,8 @@
 //! flp_meaning's `specs/Proof.antt` has it: for each gadget its seeds, and the coefficients of the gadget applied
 //! to its wires. The wires are interpolated and put on a larger domain by transforms, the gadget is evaluated at
 //! each point there, and a transform brings its coefficients back: about P log P products for each input of a
-//! gadget whose domain has P points.
+//! gadget whose domain has P points. [`answers::write_answers`] writes the values of the calls alone, for
+//! whoever wants the checks of an encoding and no proof.
 //!
 //! The definitions that the contracts cite beside it are in `specs/Room.antt`. [`Prover::new`] alone takes memory.
 //!

@@ -1,4 +1,4 @@
-use Rattle.std.proofs.Common.{◌≡◌, ℕ, ◌≤◌, length, refl, sym, ◌∙◌, arith}
+use Rattle.std.proofs.Common.{sym, ◌∙◌, arith}
 use Rattle.flp_report.specs.JobParts.{jobs_in, job_of}
 use Rattle.flp_jobs.specs.Reading.{setting_of}
 use Rattle.flp_jobs.proofs.PlaceLemmas.{bad-more, bad-here, bad-end}

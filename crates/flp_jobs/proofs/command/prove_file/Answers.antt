@@ -1,4 +1,4 @@
-use Rattle.std.proofs.Common.{◌≡◌, ℕ, Option, List}
+use Rattle.std.proofs.Common.{ℕ, Option, List}
 use Rattle.std.specs.Prelude.{IfSome}
 use Rattle.flp_batch.proofs.OutcomeLemmas.{OnOk-map}
 use Rattle.flp_report.specs.JobReader.{source_of}

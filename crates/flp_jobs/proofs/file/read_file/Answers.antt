@@ -1,4 +1,4 @@
-use Rattle.std.proofs.Common.{◌≡◌, ℕ, ◌≤◌, List, length, Err, refl, sym, ap, subst, ◌∙◌, arith}
+use Rattle.std.proofs.Common.{◌≡◌, ℕ, ◌≤◌, List, length, Err, sym, ap, subst, ◌∙◌, arith}
 use Rattle.std.specs.Prelude.{IfSome}
 use Rattle.flp_io.proofs.ReadLemmas.{ConsumesSome-after}
 use Rattle.flp_load.specs.Loaded.{IsLoaded}
@@ -9,8 +9,7 @@ use Rattle.flp_jobs.specs.declared.fault.ProveFault.{ProveFault}
 use Rattle.flp_jobs.specs.declared.fault.ProveFault.TheVariants.{Read, Write}
 use Rattle.flp_jobs.specs.declared.file.JobFile.{JobFile}
 use Rattle.flp_jobs.specs.Fault.{fault_from, IfInput}
-use Rattle.flp_jobs.specs.Setting.{JobSetting, IsJobShapeOf}
-use Rattle.flp_jobs.specs.Reading.{setting_of}
+use Rattle.flp_jobs.specs.Setting.{JobSetting}
 use Rattle.flp_jobs.specs.Reply.{IsRefusal}
 use Rattle.flp_jobs.proofs.FaultLemmas.{fault_from-read, fault_from-write}
 use Rattle.flp_jobs.proofs.FileLemmas.{text-refused, jobs-refused, Reads-from, few-jobs}

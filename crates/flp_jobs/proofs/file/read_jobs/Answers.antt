@@ -1,7 +1,6 @@
-use Rattle.std.proofs.Common.{◌≡◌, ℕ, ◌+◌, ◌*◌, ◌≤◌, length, refl, ap, ◌∙◌, arith}
+use Rattle.std.proofs.Common.{refl, ◌∙◌, arith}
 use Rattle.flp_io.proofs.ReadLemmas.{ConsumesSome-after}
-use Rattle.flp_report.specs.Job.{job_bytes_of}
-use Rattle.flp_report.specs.JobParts.{jobs_bytes, jobs_shape, jobs_count}
+use Rattle.flp_report.specs.JobParts.{jobs_bytes}
 use Rattle.flp_report.specs.JobReader.{jobs_left}
 use Rattle.flp_report.proofs.ReadsLemmas.{ConsumesAtMost-after}
 use Rattle.flp_jobs.proofs.FileLemmas.{length-jobs, end-refused}

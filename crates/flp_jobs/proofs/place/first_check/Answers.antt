@@ -1,6 +1,5 @@
-use Rattle.std.proofs.Common.{◌≡◌, ℕ, List, Option, Some, refl, sym, ap₂, ◌∙◌}
+use Rattle.std.proofs.Common.{ℕ, List, refl, sym, ap₂, ◌∙◌}
 use Rattle.flp_report.specs.JobParts.{job_of}
-use Rattle.flp_jobs.specs.Encoding.{job_joint, job_encoding}
 use Rattle.flp_jobs.specs.Place.{failing_check}
 use Rattle.flp_jobs.specs.Reading.{setting_of}
 use Rattle.flp_jobs.proofs.PlaceLemmas.{check-more, check-here}

@@ -1,9 +1,8 @@
-use Rattle.std.proofs.Common.{◌≡◌, ℕ, Option, None, true, ap, sym, ◌∙◌, Bool}
+use Rattle.std.proofs.Common.{◌≡◌, Option, true, ap, sym, ◌∙◌}
 use Rattle.std.specs.Prelude.{is_none}
 use Rattle.flp_syntax.specs.declared.syntax.Params.{Params}
 use Rattle.flp_report.specs.declared.job_shape.JobShape.{JobShape}
 use Rattle.flp_report.specs.JobParts.{job_of, job_shape_of, input_in}
-use Rattle.flp_plan.specs.Counted.{lengths_of}
 use Rattle.flp_jobs.specs.Setting.{input_count}
 use Rattle.flp_jobs.proofs.JobLemmas.{read-good, shape-good, input-good}
 use Rattle.flp_jobs.proofs.place.write_encoding.Goals as goal

@@ -1,4 +1,4 @@
-use Rattle.std.proofs.Common.{◌≡◌, ℕ, ◌-◌, ◌*◌, ap, sym, ◌∙◌}
+use Rattle.std.proofs.Common.{◌-◌, ◌*◌, ap, sym, ◌∙◌}
 use Rattle.flp_report.specs.declared.job_shape.JobShape.{JobShape}
 use Rattle.flp_report.specs.Job.{job_part_of}
 use Rattle.flp_report.specs.JobParts.{job_of, job_shape_of, parts_in}

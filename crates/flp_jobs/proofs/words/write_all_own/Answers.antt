@@ -1,4 +1,4 @@
-use Rattle.std.proofs.Common.{◌≡◌, ℕ, ◌+◌, ◌*◌, ◌≤◌, List, length, refl, ◌∙◌, arith}
+use Rattle.std.proofs.Common.{ℕ, ◌+◌, ◌*◌, ◌≤◌, List, length, refl, ◌∙◌, arith}
 use Rattle.flp_report.specs.JobParts.{job_of}
 use Rattle.flp_worker.proofs.PrefixLemmas.{part-fits, length-part, flat-more}
 use Rattle.flp_jobs.specs.Record.{own_words}

@@ -1,4 +1,4 @@
-use Rattle.std.proofs.Common.{◌≡◌, ℕ, ◌+◌, length, ap, sym, ◌∙◌, arith}
+use Rattle.std.proofs.Common.{◌≡◌, length, ap, sym, ◌∙◌, arith}
 use Rattle.flp_report.specs.declared.job_shape.JobShape.{JobShape}
 use Rattle.flp_report.specs.JobParts.{job_of, job_shape_of, job_joint_in, job_query_in}
 use Rattle.flp_jobs.proofs.JobLemmas.{read-size, own-proof, length-joint, length-query}

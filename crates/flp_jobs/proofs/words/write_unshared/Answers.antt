@@ -1,5 +1,4 @@
-use Rattle.std.proofs.Common.{◌≡◌, Option, Some, None, ◌∙◌}
-use Rattle.flp_circuits.specs.declared.fault.MeasFault.{MeasFault}
+use Rattle.std.proofs.Common.{◌≡◌, Some, None, ◌∙◌}
 use Rattle.flp_report.specs.JobParts.{job_of}
 use Rattle.flp_jobs.specs.Reading.{setting_of}
 use Rattle.flp_jobs.proofs.MeasLemmas.{input-taken}
