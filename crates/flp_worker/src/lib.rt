@@ -19,3 +19,6 @@ mod worker;
 /// Want of memory.
 pub use std::alloc::AllocError as Memory;
 pub use worker::Worker;
+
+#[cfg(test)]
+mod tests;
