@@ -28,6 +28,3 @@ pub use code::{CallForms, Code};
 pub use terms::term_count;
 /// Want of memory.
 pub use std::alloc::AllocError as Memory;
-
-#[cfg(test)]
-mod tests;

@@ -31,6 +31,3 @@ pub use lengths::Lengths;
 pub use plan::Plan;
 /// Want of memory.
 pub use std::alloc::AllocError as Memory;
-
-#[cfg(test)]
-mod tests;
