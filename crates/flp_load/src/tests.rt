@@ -1,14 +1,9 @@
-//! Texts that are refused, and the standard circuits, by tables; and what plans answer, at numbers that were computed
-//! by hand.
-ghost use Rattle.std.specs.Prelude.{◌≡◌, IfOk, length};
-
+//! Texts that are refused, and circuits with their lengths, by tables.
 use crate::{CircuitFault, LoadFault, load_circuit};
 use flp_circuits::{Param, ParamFault, body_of};
-use flp_field::Fe;
-use flp_gadget::Gadget;
 use flp_lang::{Circuit, LangFault, Params, parse, print};
-use flp_plan::{Plan, PlanCounted, PlanFault};
-use std::alloc::{AllocError, Global};
+use flp_plan::{PlanCounted, PlanFault};
+use std::alloc::Global;
 use std::test::Fail;
 
 /// One fault of each pass, and of each kind of parameters' faults.
@@ -87,9 +82,13 @@ fn loaded(alloc: Global, text: &str) -> Result<(Option<Params>, [u32; 7]), LoadF
     Ok((loaded.params, numbers))
 }
 
+/// The word times its square, minus the word.
+const CUBE: &str =
+    "meas 1; joint 0; gadget g = mul; check g(g(meas[0],meas[0]),meas[0])-meas[0]; out meas[0];";
+
 /// The parameters that are read, and the lengths: meas, joint, prove, query, proof, verifier, outs.
 #[test]
-fn loads_standard_circuits(rt: HostRuntime) -> Result<(), Fail> {
+fn loads_circuits(rt: HostRuntime) -> Result<(), Fail> {
     let table = [
         ("use count;", Params::Count, [1, 0, 2, 1, 5, 4, 1]),
         (
@@ -121,62 +120,7 @@ fn loads_standard_circuits(rt: HostRuntime) -> Result<(), Fail> {
     for (text, params, numbers) in table.iter() {
         assert_eq!(rt; loaded(rt.alloc(), text), Ok((Some(*params), *numbers)));
     }
-    Ok(())
-}
-
-/// The word times its square, minus the word.
-const CUBE: &str =
-    "meas 1; joint 0; gadget g = mul; check g(g(meas[0],meas[0]),meas[0])-meas[0]; out meas[0];";
-
-const THREE: &str = "meas 1; joint 0; gadget g = mul; check g(meas[0],meas[0]) + 3; out meas[0];";
-
-/// The public values of a plan without joint words.
-fn publics(alloc: Global, plan: &Plan) -> Result<Vec<Fe>, AllocError>
-    requires { plan.now.circuit.joint ≡ 0 }
-    ensures { IfOk result (λ words. length words.items ≡ length plan.now.steps) }
-{
-    let mut words = vec![in alloc; Fe::ZERO; plan.publics_len() as usize]?;
-    plan.publics(&[], &mut words);
-    Ok(words)
-}
-
-/// A call inside a call, of a circuit that no parameters give.
-#[test]
-fn answers_of_a_plan(rt: HostRuntime) -> Result<(), Fail> {
-    let alloc = rt.alloc();
-    assert_eq!(rt; loaded(alloc, CUBE), Ok((None, [1, 0, 2, 1, 9, 4, 1])));
-    let plan = load_circuit(alloc, CUBE.as_bytes())?.plan;
-    let lengths = plan.lengths();
-    assert_eq!(rt; (lengths.meas, lengths.joint), (1, 0));
-    assert_eq!(rt;
-        (plan.gadgets(), plan.checks(), plan.call_count()),
-        (1, 1, 2)
-    );
-    assert_eq!(rt; (plan.calls(0), plan.log(0)), (2, 2));
-    assert_eq!(rt; (plan.call_gadget(1), plan.call_number(1)), (0, 2));
-    assert_eq!(rt; plan.kind(0).arity(), 2);
-    let publics = publics(alloc, &plan)?;
-    let x = [Fe::new(5).expect(&rt, "a word")];
-    let answers = [Fe::new(7).expect(&rt, "a word"), Fe::ZERO];
-    let mut out = [Fe::ZERO; 2];
-    plan.inputs(1, &publics, &x, &answers, Fe::ONE, &mut out);
-    assert_eq!(rt; [out[0].value(), out[1].value()], [7, 5]);
-    assert_eq!(rt; plan.out(0, &publics, &x).value(), 5);
-    Ok(())
-}
-
-#[test]
-fn a_constant_counts_by_the_unit(rt: HostRuntime) -> Result<(), Fail> {
-    let alloc = rt.alloc();
-    let plan = load_circuit(alloc, THREE.as_bytes())?.plan;
-    let lengths = plan.lengths();
-    assert_eq!(rt; (lengths.meas, lengths.joint), (1, 0));
-    assert_eq!(rt; (plan.checks(), plan.call_count()), (1, 1));
-    let publics = publics(alloc, &plan)?;
-    let answers = [Fe::new(4).expect(&rt, "a word")];
-    let half = Fe::new(9223372034707292161).expect(&rt, "a word");
-    let check = plan.check(0, &publics, &[Fe::ZERO], &answers, half);
-    assert_eq!(rt; check.value(), 9223372034707292166);
+    assert_eq!(rt; loaded(rt.alloc(), CUBE), Ok((None, [1, 0, 2, 1, 9, 4, 1])));
     Ok(())
 }
 
