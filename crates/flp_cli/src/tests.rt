@@ -628,9 +628,10 @@ fn push_words(bytes: &mut Vec<u8>, words: &[u64]) -> Result<(), AllocError> {
 
 fn job_file(alloc: Global, task: &Task) -> Result<Vec<u8>, AllocError> {
     let mut bytes = b"FLPTASKS\x01\0\0\0".to_vec(alloc)?;
-    for number in [task.shares, task.proofs, task.text.len() as u8, 1] {
-        bytes.extend_from_slice(&[number, 0, 0, 0])?;
-    }
+    bytes.extend_from_slice(&[task.shares, 0, 0, 0, task.proofs, 0, 0, 0])?;
+    let length = (task.text.len() as u64).to_le_bytes();
+    bytes.extend_from_slice(&length[..4])?;
+    bytes.extend_from_slice(&[1, 0, 0, 0])?;
     bytes.extend_from_slice(task.text)?;
     bytes.extend_from_slice(&NONCE)?;
     push_words(&mut bytes, task.input)?;
