@@ -1,7 +1,9 @@
 -- Lists of words in one, of the same length each, and what is read across them. From parts up to what a gadget's wires run through.
 use Rattle.std.specs.Prelude.{ℕ, ◌≡◌, ◌+◌, ◌*◌, ◌<◌, List, [], ◌∷◌, ◌++◌, length, map, get_or, slice_index}
 use Rattle.std.specs.List.{range_with_len}
+use Rattle.flp_poly.specs.Interpolation.{interpolated}
 use Rattle.flp_meaning.specs.Meaning.{Call}
+use Rattle.flp_meaning.specs.Wires.{filled}
 
 -- parts one after another
 abbrev pub joined : List (List ℕ) → List ℕ
@@ -11,6 +13,11 @@ joined (part ∷ more) = part ++ joined more
 -- of so many rows of this width, one after another, the words of a column
 abbrev pub column : (count width : ℕ) → List ℕ → ℕ → List ℕ
 column count width rows input = map (λ row. slice_index rows (row * width + input)) (range_with_len 0 count)
+
+-- for each column the polynomial that runs on a domain of this size through its words, and then through zeros
+abbrev pub wires_through : (size count width : ℕ) → List ℕ → List (List ℕ)
+wires_through size count width rows =
+    map (λ input. interpolated (filled size (column count width rows input))) (range_with_len 0 width)
 
 -- the seeds of a gadget, and then the inputs of its calls
 abbrev pub seeds_and_inputs : List ℕ → List Call → List (List ℕ)

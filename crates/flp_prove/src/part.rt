@@ -11,13 +11,11 @@ ghost use Rattle.flp_plan.specs.Counted.{lengths_of};
 ghost use Rattle.flp_plan.specs.View.{publics_of};
 ghost use Rattle.flp_prove.specs.Room.{IsEnough};
 
+use crate::formula::write_formula;
 use crate::reading::Reading;
 use crate::rows::write_rows;
 use crate::sizes::{arity, coefficients, domain_size, points};
-use crate::values::write_values;
-use crate::wires::write_wires;
 use flp_field::Fe;
-use flp_ntt::inverse;
 use flp_plan::{Plan, laws};
 
 /// Writes the parts of all gadgets, one after another.
@@ -130,17 +128,14 @@ fn write_polynomial(
     let points = points(plan, gadget);
     let rows = &mut rows[..size * arity];
     write_rows(plan, gadget, reading, seeds, rows);
-    let wires = &mut wires[..arity * points];
-    write_wires(
+    write_formula(
+        plan.kind(gadget),
         rows,
-        arity,
         plan.calls(gadget) as usize + 1,
         size,
-        points,
-        wires,
+        inputs,
+        &mut wires[..arity * points],
+        &mut values[..points],
+        coefficients,
     );
-    let values = &mut values[..points];
-    write_values(plan.kind(gadget), wires, inputs, values);
-    inverse(values);
-    coefficients.copy_from_slice(&values[..coefficients.len()]);
 }

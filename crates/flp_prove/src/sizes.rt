@@ -1,11 +1,12 @@
 //! The sizes of a gadget: its inputs, its domain, its coefficients and the domain on which it is evaluated.
-ghost use Rattle.std.specs.Prelude.{◌≡◌, ℕ, ◌+◌, ◌*◌, ◌<◌, ◌≤◌, length};
+ghost use Rattle.std.specs.Prelude.{◌≡◌, ℕ, ◌+◌, ◌-◌, ◌*◌, ◌^◌, ◌<◌, ◌≤◌, length};
 ghost use Rattle.flp_ntt.specs.TransformSize.{IsTransformSize};
-ghost use Rattle.flp_meaning.specs.Gadgets.{arity_of, size_of};
+ghost use Rattle.flp_gadget.specs.KindTree.{degree_of};
+ghost use Rattle.flp_meaning.specs.Gadgets.{arity_of, size_of, ceil_log};
 ghost use Rattle.flp_meaning.specs.Lengths.{coefficient_count};
 ghost use Rattle.flp_prove.specs.Room.{points_of, IsEnough};
 
-use flp_gadget::Gadget;
+use flp_gadget::{Gadget, Kind};
 use flp_meaning::laws::least_numbers;
 use flp_plan::{Plan, laws};
 
@@ -31,6 +32,30 @@ pub(crate) fn domain_size(plan: &Plan, gadget: u32) -> usize
     1 << plan.log(gadget)
 }
 
+/// The number of coefficients of a gadget at wires that are given on a domain of `size` points.
+pub(crate) fn coefficients_on(kind: &Kind, size: usize) -> usize
+    requires size { IsTransformSize size }
+    requires few_points { size ≤ 4096 }
+    ensures count { result ≡ degree_of kind.now * (size - 1) + 1 }
+    ensures few { result ≤ 32761 }
+    ensures many { size ≤ result }
+{
+    kind.degree() * (size - 1) + 1
+}
+
+/// The least power of two with a point for each coefficient.
+pub(crate) fn points_for(coefficients: usize) -> usize
+    requires some { 1 ≤ coefficients }
+    requires few_coefficients { coefficients ≤ 32761 }
+    ensures points { result ≡ 2 ^ ceil_log coefficients }
+    ensures few { result ≤ 32768 }
+    ensures transforms { IsTransformSize result }
+    ensures enough { coefficients ≤ result }
+{
+    least_numbers();
+    coefficients.next_power_of_two()
+}
+
 /// The number of coefficients of a gadget's polynomial in a proof.
 pub(crate) fn coefficients(plan: &Plan, gadget: u32) -> usize
     requires { gadget < length plan.now.circuit.gadgets }
@@ -38,8 +63,7 @@ pub(crate) fn coefficients(plan: &Plan, gadget: u32) -> usize
     ensures few { result ≤ 32761 }
     ensures many { size_of plan.now.circuit gadget ≤ result }
 {
-    laws::is_within_limits(plan);
-    plan.kind(gadget).degree() * (domain_size(plan, gadget) - 1) + 1
+    coefficients_on(plan.kind(gadget), domain_size(plan, gadget))
 }
 
 /// The number of points on which a gadget is evaluated: the least power of two with a point for each
@@ -52,8 +76,7 @@ pub(crate) fn points(plan: &Plan, gadget: u32) -> usize
     ensures coefficients { coefficient_count plan.now.circuit gadget ≤ result }
     ensures domain { size_of plan.now.circuit gadget ≤ result }
 {
-    least_numbers();
-    coefficients(plan, gadget).next_power_of_two()
+    points_for(coefficients(plan, gadget))
 }
 
 /// How many words the working room of a prover has.

@@ -1,0 +1,1 @@
+use Rattle.flp_weak.proofs.lies.gadget_lies.Goals as goal
