@@ -10,6 +10,14 @@ use Rattle.flp_report.specs.Segment.{used_in, held_in, record_in, records_in}
 use Rattle.flp_report.specs.Pieces.{pieces, IsCut}
 use Rattle.flp_report.proofs.PiecesLemmas.{pieces-append, slice_get-pieces, IsCut-pieces}
 
+-- the one record is all that the segment holds
+pub record_in-only : (s : Segment) → used_in s ≡ 1 → record_in s 0 ≡ held_in s
+record_in-only s used =
+    let size = bytes_of s.shape in
+    let start : 0 * size ≡ 0 = omega arith in
+    let all : size ≡ s.used * size = rw used (omega arith) in
+    ap (λ (n : ℕ). take size (drop n s.bytes.items)) start ∙ ap (λ (n : ℕ). take n s.bytes.items) all
+
 -- a segment holds the shape's bytes for each record
 length-held : (s : Segment) → length (held_in s) ≡ s.used * bytes_of s.shape
 length-held s =
