@@ -21,3 +21,6 @@ pub use text::{push_ending, push_line};
 
 /// Want of memory, as std's allocators answer it.
 pub use std::alloc::AllocError as Memory;
+
+#[cfg(test)]
+mod tests;
