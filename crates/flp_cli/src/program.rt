@@ -50,9 +50,9 @@ use std::thread::Threads;
 ///
 /// After 3, 4, 5, 6 and 7 the output of `verify` has taken a prefix of the lines of the reports that
 /// were read whole, or, where its own fault came later, of the text; after 5 the output of `lengths`
-/// has taken a prefix of its lines and that of `prove` a prefix of the batch, and after every status but 0 that of `prep` and of `explain` a
-/// prefix of the lines of the reports that were read whole. The policies, fewer than
-/// 4,294,967,295, are dropped untold, and the gate is not entered.
+/// has taken a prefix of its lines and that of `prove` a prefix of the batch; and after every status
+/// but 0 that of `prep` and of `explain` has taken a prefix of the lines of the reports that were read
+/// whole. The policies, fewer than 4,294,967,295, are dropped untold, and the gate is not entered.
 pub fn run<R: Threads + Sync, S: Source, K: Sink, E: Sink, G: Gate>(
     _rt: &R,
     alloc: Global,
