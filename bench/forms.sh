@@ -28,7 +28,7 @@ const TERMS: u32 = 256;
 const FORMS: u64 = 400_000;
 
 /// How many powers of a joint word the steps have.
-const POWERS: u64 = 1024;
+const POWERS: u32 = 1024;
 
 /// How often the steps are run.
 const RUNS: u64 = 100_000;

@@ -5,7 +5,7 @@ set -eu
 . "$(dirname "$0")/room.sh"
 crates="flp_field flp_poly flp_list flp_ntt flp_gadget flp_syntax flp_check flp_lang flp_circuits flp_meaning flp_forms flp_emit flp_plan flp_load flp_prove flp_query"
 furnish proofs $crates
-for crate in $crates; do grep "^$crate:" "$top/crates.txt"; done >"$room/crates.txt"
+for crate in $crates; do grep "^$crate:" "$top/crates.txt" || exit 1; done >"$room/crates.txt"
 echo "bench_proofs: flp_field flp_list flp_plan flp_load flp_prove flp_query" >>"$room/crates.txt"
 cat >"$room/crates/bench_proofs/src/main.rt" <<'PROGRAM'
 //! Times proofs and queries of a histogram of 256 words that are checked in chunks of 16: a gadget with 32
@@ -14,8 +14,7 @@ cat >"$room/crates/bench_proofs/src/main.rt" <<'PROGRAM'
 #![tactic(auto)]
 ghost use Rattle.std.specs.Prelude.{◌≡◌, length};
 ghost use Rattle.flp_plan.specs.Counted.{lengths_of};
-ghost use Rattle.flp_prove.specs.Room.{Serves};
-ghost use Rattle.flp_query.specs.Sizes.{sizes_of};
+ghost use Rattle.flp_plan.specs.Sizes.{sizes_of};
 
 use flp_field::Fe;
 use flp_load::load_circuit;
@@ -85,7 +84,7 @@ fn prove_again(
     seeds: &[Fe],
     proof: &mut [Fe],
 ) -> Fe
-    requires made { Serves prover.old plan.now }
+    requires made { prover.old ≡ sizes_of plan.now }
     requires x { length x.old ≡ (lengths_of plan.now.circuit).meas }
     requires joint { length joint.now ≡ (lengths_of plan.now.circuit).joint }
     requires seeds { length seeds.now ≡ (lengths_of plan.now.circuit).prove }
@@ -140,15 +139,16 @@ fn query_again(
 PROGRAM
 for loop in prove_again query_again; do mkdir -p "$room/crates/bench_proofs/proofs/$loop"; done
 cat >"$room/crates/bench_proofs/proofs/prove_again/Invariants.antt" <<'PROOF'
-use Rattle.flp_prove.specs.Room.{Serves}
+use Rattle.std.proofs.Common.{◌≡◌}
+use Rattle.flp_plan.specs.Sizes.{sizes_of}
 use Rattle.bench_proofs.proofs.prove_again.Given as goal
 
 abbrev pub invariant-rounds : goal.invariant-rounds
-invariant-rounds l = Serves l.prover l.plan
+invariant-rounds l = l.prover ≡ sizes_of l.plan
 PROOF
 cat >"$room/crates/bench_proofs/proofs/query_again/Invariants.antt" <<'PROOF'
 use Rattle.std.proofs.Common.{◌≡◌}
-use Rattle.flp_query.specs.Sizes.{sizes_of}
+use Rattle.flp_plan.specs.Sizes.{sizes_of}
 use Rattle.bench_proofs.proofs.query_again.Given as goal
 
 abbrev pub invariant-rounds : goal.invariant-rounds

@@ -1,10 +1,8 @@
 #!/usr/bin/env python3
-"""Remakes the files in `examples/`: circuit texts, job files, and batches of reports.
+"""Remakes the example files, and the cases that say how each is answered.
 
-    make_examples.py                    writes them
-    make_examples.py --check            names those that differ from what would be written
-    make_examples.py --run 'rt run --'  runs the program on each, from `crates/flp`, and names those
-                                        that it answers otherwise
+    make_examples.py            writes them to `crates/flp_cases/data`
+    make_examples.py --check    names those that differ from what would be written
 
 What the program must print stands beside each file, worked out by hand. The words of the reports are worked out
 here from the definitions alone: sums and products modulo p, wires by interpolation over the powers of a root of
@@ -13,8 +11,6 @@ written. Nothing that the program printed enters.
 """
 import copy
 import os
-import shlex
-import subprocess
 import sys
 
 TOP = os.path.dirname(os.path.dirname(os.path.abspath(__file__)))
@@ -544,52 +540,65 @@ PREPARED = {
 }
 
 
-class Example:
-    """A file, the words of the command on it, and the status, the output and the line that it must have."""
+VERIFY, LENGTHS, EXPLAIN, PREPARE, PROVE = "verify --workers 1", "lengths", "explain", "prep --party 1", "prove"
 
-    def __init__(self, content, words, output, status=0, line=""):
-        self.content, self.words, self.status, self.line = content, words, status, line
-        self.output = output if isinstance(output, bytes) else output.encode()
+HEADING = """\
+# How the example files beside this one are answered. Written by `scripts/make_examples.py`; what they show is told in
+# `README.md`.
+"""
 
 
-def circuit_examples():
-    names = ["meas", "joint", "prove", "query", "proof", "verifier", "outs"]
+def case(name, command, file, status, output):
+    """A block of a file of cases. The output is lines."""
+    return "\n".join([f"case {name}", f"run flp {command}", f"use {file}", f"status {status}", *output]) + "\n"
+
+
+def printed(text):
+    """The lines that make a text."""
+    return [report_line(line) for line in text.splitlines()]
+
+
+def report_line(line):
+    first, end = line[:2], nonce(0).hex()[2:]
+    return f"report {int(first, 16)} {line[33:]}" if line[2:32] == end else f"line {line}"
+
+
+def circuit_cases():
     for name, (circuit, numbers) in CIRCUITS.items():
         assert circuit.lengths() == numbers, name
-        output = "".join(f"{n} {k}\n" for n, k in zip(names, numbers))
-        yield f"{name}.circuit", Example(circuit.text.encode() + b"\n", "lengths", output)
+        file = f"{name}.circuit"
+        yield case(f"{file} has these lengths", LENGTHS, file, 0, ["lengths " + " ".join(map(str, numbers))])
 
 
-def batch_examples():
+def batch_cases():
     for name, (batch, text) in BATCHES.items():
         assert batch.text() == text, name
-        yield f"{name}.batch", Example(batch.content(), "verify --workers 1", text)
+        yield case(f"{name}.batch is verified", VERIFY, f"{name}.batch", 0, printed(text))
     for name, text in EXPLAINED.items():
-        yield f"{name}.batch", Example(BATCHES[name][0].content(), "explain", text)
+        yield case(f"{name}.batch is explained", EXPLAIN, f"{name}.batch", 0, printed(text))
     for name, text in PREPARED.items():
-        yield f"{name}.batch", Example(BATCHES[name][0].content(), "prep --party 1", text)
-    short = BATCHES["accepted"][0].content()[:-1]
-    yield "truncated.batch", Example(short, "verify --workers 1", "", 6, "flp: batch: truncated 161 162\n")
+        yield case(f"{name}.batch has these verifiers of share 1", PREPARE, f"{name}.batch", 0, printed(text))
+    yield case("truncated.batch is refused", VERIFY, "truncated.batch", "6 flp: batch: truncated 161 162", [])
 
 
-def job_examples():
-    for name, (jobs, batch) in JOBS.items():
-        yield f"{name}.job", Example(jobs.content(), "prove", BATCHES[batch][0].content())
-    for name, (jobs, status, line) in REFUSED.items():
-        yield f"{name}.job", Example(jobs.content(), "prove", "", status, line)
+def job_cases():
+    for name, (_, batch) in JOBS.items():
+        yield case(f"{name}.job makes {batch}.batch", PROVE, f"{name}.job", 0, [f"use {batch}.batch"])
+    for name, (_, status, line) in REFUSED.items():
+        yield case(f"{name}.job is refused", PROVE, f"{name}.job", f"{status} {line.strip()}", [])
 
 
-def examples():
-    """Names of files with what they must give; a file may be there more than once."""
-    return [*circuit_examples(), *batch_examples(), *job_examples()]
-
-
-def run(command, example):
-    """Whether the command answers as it must; what a build says on standard error before is passed over."""
-    words = shlex.split(command) + example.words.split()
-    done = subprocess.run(words, cwd=os.path.join(TOP, "crates", "flp"), input=example.content, capture_output=True)
-    said = done.stderr.decode().endswith(example.line)
-    return done.returncode == example.status and done.stdout == example.output and said
+def files():
+    """Names of files, each with its bytes."""
+    for name, (circuit, _) in CIRCUITS.items():
+        yield f"{name}.circuit", circuit.text.encode() + b"\n"
+    for name, (batch, _) in BATCHES.items():
+        yield f"{name}.batch", batch.content()
+    yield "truncated.batch", BATCHES["accepted"][0].content()[:-1]
+    for name, (jobs, *_) in [*JOBS.items(), *REFUSED.items()]:
+        yield f"{name}.job", jobs.content()
+    cases = [HEADING, *circuit_cases(), *batch_cases(), *job_cases()]
+    yield "examples.cases", "\n".join(cases).encode()
 
 
 def write(path, content):
@@ -603,16 +612,13 @@ def read(path):
 
 
 def main(words):
-    folder = os.path.join(TOP, "examples")
     failed = []
-    for name, example in examples():
-        path = os.path.join(folder, name)
+    for name, content in files():
+        path = os.path.join(TOP, "crates", "flp_cases", "data", name)
         if not words:
-            write(path, example.content)
-        elif words == ["--check"] and not (os.path.exists(path) and read(path) == example.content):
+            write(path, content)
+        elif not (os.path.exists(path) and read(path) == content):
             failed.append(name)
-        elif words[0] == "--run" and not run(words[1], example):
-            failed.append(f"{name} ({example.words})")
     for name in failed:
         print(f"{name} differs")
     return 1 if failed else 0

@@ -1,18 +1,11 @@
 //! The program `flp`: its words, standard streams and exit status around [`flp_cli::run`].
 #![tactic(auto)]
 
-use flp_cli::run;
-use flp_io::{ReaderSource, WriterSink, put};
-use flp_pool::NoGate;
+use flp_cli::{NoGate, run, without_words};
+use flp_io::{ReaderSource, WriterSink};
 use std::alloc::{AllocError, Global};
 use std::io::{self, ErrorKind};
 use std::process::ExitCode;
-
-/// The exit status where the words find no memory.
-const NO_MEMORY: u8 = 3;
-
-/// The exit status where the words cannot be had.
-const NO_WORDS: u8 = 2;
 
 /// The words as slices of text.
 fn lent(alloc: Global, words: &[String]) -> Result<Vec<&str>, AllocError> {
@@ -29,36 +22,21 @@ fn words(rt: &HostRuntime) -> io::Result<Vec<String>> {
     Ok(words)
 }
 
-/// Says why the words cannot be had, and gives the exit status.
-fn without_words(rt: &HostRuntime, kind: ErrorKind) -> u8 {
-    let mut errors = WriterSink::new(rt.stderr());
-    match kind {
-        ErrorKind::OutOfMemory => {
-            let _said = put(&mut errors, b"flp: no memory\n");
-            NO_MEMORY
-        }
-        _ => {
-            let _said = put(
-                &mut errors,
-                b"flp: usage: flp verify, prove, lengths, prep, explain or trial\n",
-            );
-            NO_WORDS
-        }
-    }
-}
-
 fn main(rt: HostRuntime) -> ExitCode {
+    let mut errors = WriterSink::new(rt.stderr());
     let words = match words(&rt) {
         Ok(words) => words,
-        Err(error) => return ExitCode::from(without_words(&rt, error.kind())),
+        Err(error) => {
+            let memory = error.kind() == ErrorKind::OutOfMemory;
+            return ExitCode::from(without_words(&mut errors, memory));
+        }
     };
     let texts = match lent(rt.alloc(), words.as_slice()) {
         Ok(texts) => texts,
-        Err(_) => return ExitCode::from(without_words(&rt, ErrorKind::OutOfMemory)),
+        Err(_) => return ExitCode::from(without_words(&mut errors, true)),
     };
     let mut input = ReaderSource::new(rt.stdin());
     let mut output = WriterSink::new(rt.stdout());
-    let mut errors = WriterSink::new(rt.stderr());
     let policies = Vec::new(rt.alloc());
     ExitCode::from(run(
         &rt,

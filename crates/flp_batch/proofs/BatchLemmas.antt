@@ -1,101 +1,223 @@
 -- From what was opened and what came behind it to the whole file.
-use Rattle.std.proofs.Common.{◌≡◌, ◌≢◌, ℕ, ◌+◌, ◌*◌, ◌≤◌, Option, Some, List, [], ◌++◌, length, inr, refl, sym, ap, subst, Result, Ok, Err, ◌∙◌, arith, append-nil}
-use Rattle.std.specs.Prelude.{IfSome, IfErr}
+use Rattle.std.proofs.Common.{◌≡◌, ◌≢◌, ℕ, ◌+◌, ◌-◌, ◌/◌, ◌≤◌, min, Option, List, ◌++◌, [], length, take, inl, inr, refl, sym, ap, subst, Result, Err, ◌∙◌, ◌⊎◌, arith, append-nil, length-append, ⊎_elim}
+use Rattle.std.specs.Prelude.{IfSome}
 use Rattle.std.specs.List.{concat}
-use Rattle.std.specs.Io.KnownBytes.{Appends, IsAtEnd}
+use Rattle.std.specs.Prelude.{All}
+use Rattle.std.specs.Io.KnownBytes.{Appends, Keeps}
 use Rattle.std.proofs.KnownBytes.{Consumes-trans}
+use Rattle.std.proofs.lemmas.List.{take_at}
+use Rattle.std.proofs.lemmas.Result.{IfErr-weaker}
+use Rattle.flp_io.specs.Reads.{ConsumesSome}
 use Rattle.flp_io.specs.Writes.{TakesPrefix}
 use Rattle.flp_io.proofs.WriteLemmas.{TakesPrefix-more}
-use Rattle.flp_report.specs.declared.fault.BatchFault.{BatchFault}
+use Rattle.flp_report.specs.declared.shape.Shape.{Shape}
 use Rattle.flp_report.specs.Shape.{bytes_of}
-use Rattle.flp_report.specs.Reads.{ConsumesAtMost}
-use Rattle.flp_report.specs.Batch.{records_fault, size_of, whole_records}
-use Rattle.flp_report.proofs.LawLemmas.{fault_of-records, whole_records-first, whole_records-all, length-records}
-use Rattle.flp_report.proofs.BackLemmas.{records_fault-none}
+use Rattle.flp_io.specs.Reads.{ConsumesAtMost}
+use Rattle.flp_report.specs.Batch.{file_size, whole_of, whole_records}
+use Rattle.flp_report.specs.Buckets.{HasBucket, placed}
+use Rattle.flp_report.proofs.BucketLemmas.{placed-one, placed-behind}
+use Rattle.flp_report.proofs.PiecesLemmas.{length-pieces}
+use Rattle.flp_report.proofs.LawLemmas.{fault_of-records, records_fault-none, whole_records-first, whole_records-all}
 use Rattle.flp_report.proofs.KnownLemmas.{IfSome-consumed, IfSome-before}
 use Rattle.flp_report.proofs.ReadsLemmas.{ConsumesAtMost-after}
-use Rattle.flp_load.specs.declared.fault.CircuitFault.{CircuitFault}
 use Rattle.flp_batch.specs.declared.fault.EngineFault.{EngineFault}
 use Rattle.flp_batch.specs.declared.fault.EngineFault.TheVariants.{Memory, Read, Write, Batch, Circuit}
 use Rattle.flp_batch.specs.declared.front.Opened.{Opened}
+use Rattle.flp_batch.specs.Cut.{settled}
+use Rattle.flp_batch.specs.Ends.{Ends}
 use Rattle.flp_batch.specs.Fault.{IfFile}
-use Rattle.flp_batch.specs.File.{IsFault}
-use Rattle.flp_batch.specs.Lines.{lines_from, lines_of}
-use Rattle.flp_batch.specs.Opened.{setting_of, records_start, Opens}
-use Rattle.flp_batch.specs.Walk.{Judges, Stops}
-use Rattle.flp_batch.specs.Batch.{JudgesBatch, StopsInBatch, TakesFile, TakesFew}
+use Rattle.flp_batch.specs.Format.{batches, newest_read}
+use Rattle.flp_batch.specs.File.{IsBatch, IsFault, TakesFile, TakesFew}
+use Rattle.flp_batch.specs.Lines.{Wording, lines_from, lines_of}
+use Rattle.flp_batch.specs.Opened.{setting_of, records_size, IsRecordsFault, IsOpened, Opens}
+use Rattle.flp_batch.specs.Reply.{WritesText, StopsInText, StopsEarly, SettlesEarly}
+use Rattle.flp_batch.specs.Setting.{Setting}
+use Rattle.flp_batch.specs.Walk.{Stops, Settles, Tells, TellsFront, StopsWalk}
 use Rattle.flp_batch.proofs.LineLemmas.{lines-joined}
 use Rattle.flp_batch.proofs.FileLemmas.{size-front, behind, fault-records}
 
+-- ---- what was written
+
+-- only version 1 is read, in which the bucket of each record is right
+all-placed : (party : Option ℕ) (o : Opened) (rs : List (List ℕ)) → IsOpened party o → All (HasBucket o.shape) rs
+all-placed party o rs is =
+    let other : o.shape.version ≢ 2 = λ two. let no : ⊥ = omega (arith, two, is.shape.version, is.limits.most_version) in no in
+    let some : 1 ≤ o.shape.buckets = omega (arith, is.shape.buckets, is.limits.least_buckets) in
+    placed-one o.shape rs other some
+
+-- records with right buckets all stand in front of the first fault
+placed-all : (s : Shape) (rs : List (List ℕ)) → All (HasBucket s) rs → placed s rs ≡ rs
+placed-all s rs all = ap (placed s) (sym (append-nil rs)) ∙ (placed-behind s rs [] all ∙ append-nil rs)
+
+-- records up to the end of the input are those of a batch
+record IsWhole (party : Option ℕ) (o : Opened) (bytes : List ℕ) (rs : List (List ℕ)) : Type 0 where
+  is_batch : IsBatch party bytes o.loaded.params (setting_of o)
+  whole : whole_records newest_read party o.shape bytes ≡ rs
+
+whole-behind : (party : Option ℕ) (o : Opened) (first left : Option (List ℕ)) (opens : Opens party first left o) (rs : List (List ℕ))
+    → length rs ≡ o.header.reports → All (λ r. length r ≡ bytes_of o.shape) rs → IsWhole party o (opens.front ++ concat rs) rs
+whole-behind party o first left opens rs number sizes =
+    let rest = concat rs in
+    let bytes = opens.front ++ rest in
+    let placed = all-placed party o rs opens.is in
+    let no_fault = fault_of-records newest_read party o.shape opens.front rest o.header opens.begins ∙ records_fault-none o.shape (length opens.front) o.header.reports rs sizes placed number in
+    let bare : whole_records newest_read party o.shape bytes ≡ whole_records newest_read party o.shape (opens.front ++ (rest ++ [])) = ap (λ (x : List ℕ). whole_records newest_read party o.shape (opens.front ++ x)) (sym (append-nil rest)) in
+    record {
+      is_batch = record { has = behind party first left o opens rest; no_fault = no_fault };
+      whole = bare ∙ whole_records-all newest_read party o.shape opens.front [] o.header rs opens.begins sizes placed number;
+    }
+
+pub WritesText-behind : (party : Option ℕ) (o : Opened) (words : Setting → Wording) (first left left' taken taken' : Option (List ℕ))
+    → Opens party first left o → Tells (bytes_of o.shape) o.header.reports (words (setting_of o)).text left left' taken taken'
+    → WritesText party (λ by. (words by).text) first left' taken taken'
+WritesText-behind party o words first left left' taken taken' opens all =
+    let rest = concat all.records in
+    let is = whole-behind party o first left opens all.records all.number all.sizes in
+    record {
+      bytes = opens.front ++ rest;
+      params = o.loaded.params;
+      setting = setting_of o;
+      read = Consumes-trans first left left' opens.front rest opens.read all.read;
+      ended = all.ended;
+      is_batch = is.is_batch;
+      written = subst (λ (rs : List (List ℕ)). Appends taken taken' ((words (setting_of o)).text rs)) (sym is.whole) all.written;
+    }
+
+StopsInText-behind : (party : Option ℕ) (o : Opened) (words : Setting → Wording) (first left left' taken taken' : Option (List ℕ))
+    → Opens party first left o → TellsFront (bytes_of o.shape) o.header.reports (words (setting_of o)).text left left' taken taken'
+    → StopsInText party (λ by. (words by).text) first left' taken taken'
+StopsInText-behind party o words first left left' taken taken' opens all =
+    let rest = concat all.records in
+    let is = whole-behind party o first left opens all.records all.number all.sizes in
+    record {
+      bytes = opens.front ++ rest;
+      params = o.loaded.params;
+      setting = setting_of o;
+      read = Consumes-trans first left left' opens.front rest opens.read all.read;
+      ended = all.ended;
+      is_batch = is.is_batch;
+      written = subst (λ (rs : List (List ℕ)). TakesPrefix taken taken' ((words (setting_of o)).text rs)) (sym is.whole) all.written;
+    }
+
 -- an end among the records is one among the whole records of the bytes that were read
-pub StopsInBatch-behind : (party : Option ℕ) (o : Opened) (line : List (List ℕ) → List ℕ → List ℕ) (first left left' taken taken' : Option (List ℕ))
-    → Opens party first left o → Stops (bytes_of o.shape) o.header.reports line left left' taken taken' → StopsInBatch party o line first left' taken taken'
-StopsInBatch-behind party o line first left left' taken taken' opens stop =
+StopsEarly-behind : (party : Option ℕ) (o : Opened) (words : Setting → Wording) (first left left' taken taken' : Option (List ℕ))
+    → Opens party first left o → Stops (bytes_of o.shape) o.header.reports (words (setting_of o)).line left left' taken taken'
+    → StopsEarly party (λ by. lines_of (words by).line) first left' taken taken'
+StopsEarly-behind party o words first left left' taken taken' opens stop =
+    let line = (words (setting_of o)).line in
     let rs = stop.records in
     let rest = concat rs ++ stop.tail in
-    let whole = whole_records-first party o.shape opens.front stop.tail o.header rs opens.begins stop.sizes stop.number in
+    let whole = whole_records-first newest_read party o.shape opens.front stop.tail o.header rs opens.begins stop.sizes (all-placed party o rs opens.is) stop.number in
     let text = ap (lines_of line) whole ∙ lines-joined line rs _ in
     record {
       bytes = opens.front ++ rest;
       read = Consumes-trans first left left' opens.front rest opens.read stop.read;
-      begins = behind party first left o opens rest;
-      written = subst (TakesPrefix taken taken') (sym text) (TakesPrefix-more taken taken' (lines_of line rs) (lines_from line rs _) stop.written);
+      written = inr (record {
+        params = o.loaded.params;
+        setting = setting_of o;
+        begins = behind party first left o opens rest;
+        written = subst (TakesPrefix taken taken') (sym text) (TakesPrefix-more taken taken' (lines_of line rs) (lines_from line rs _) stop.written);
+      });
     }
 
--- records up to the end of the input are a batch
-pub JudgesBatch-behind : (party : Option ℕ) (o : Opened) (line : List (List ℕ) → List ℕ → List ℕ) (follows : List (List ℕ) → Type 0) (first left left' taken taken' : Option (List ℕ))
-    → Opens party first left o → Judges (bytes_of o.shape) o.header.reports line follows left left' taken taken' → IsAtEnd left'
-    → JudgesBatch party o line follows first left' taken taken'
-JudgesBatch-behind party o line follows first left left' taken taken' opens all ended =
-    let rs = all.records in
-    let rest = concat rs in
-    let bytes = opens.front ++ rest in
-    let size : length opens.front + length rest ≡ length opens.front + o.header.reports * bytes_of o.shape =
-    ap (λ (n : ℕ). length opens.front + n) (length-records (bytes_of o.shape) rs all.sizes ∙ ap (λ (n : ℕ). n * bytes_of o.shape) all.number) in
-    let no_fault = fault_of-records party o.shape opens.front rest o.header opens.begins ∙ records_fault-none (length opens.front) (length opens.front + o.header.reports * bytes_of o.shape) rest size in
-    let bare : whole_records party o.shape bytes ≡ whole_records party o.shape (opens.front ++ (rest ++ [])) = ap (λ (x : List ℕ). whole_records party o.shape (opens.front ++ x)) (sym (append-nil rest)) in
-    let whole = bare ∙ whole_records-all party o.shape opens.front [] o.header rs opens.begins all.sizes all.number in
-    record {
-      bytes = bytes;
-      read = Consumes-trans first left left' opens.front rest opens.read all.read;
-      ended = ended;
-      is_batch = record { has = behind party first left o opens rest; no_fault = no_fault };
-      follows_are = subst follows (sym whole) all.follows_are;
-      written = subst (Appends taken taken') (sym (ap (lines_of line) whole)) all.written;
-    }
+-- so stand the lines of all whole records that are settled, where the input has a fault
+pub SettlesEarly-behind : (party : Option ℕ) (o : Opened) (words : Setting → Wording) (first left left' taken taken' : Option (List ℕ))
+    → Opens party first left o → Settles o.shape o.header.reports (words (setting_of o)).line left left' taken taken'
+    → SettlesEarly party (λ by. lines_of (words by).line) first left' taken taken'
+SettlesEarly-behind party o words first left left' taken taken' opens stop =
+    let size = bytes_of o.shape in
+    let n = o.header.reports in
+    let rs = stop.records in
+    let rest = concat rs ++ stop.tail in
+    let others = whole_of o.shape (n - length rs) stop.tail in
+    let records = whole_records newest_read party o.shape (opens.front ++ rest) in
+    let whole = whole_records-first newest_read party o.shape opens.front stop.tail o.header rs opens.begins stop.sizes (all-placed party o rs opens.is) stop.number in
+    let more : length (placed o.shape others) ≡ min (n - length rs) (length stop.tail / size) =
+    ap length (placed-all o.shape others (all-placed party o others opens.is)) ∙ length-pieces size (min (n - length rs) (length stop.tail / size)) stop.tail in
+    let few : length rs ≤ n = stop.number in
+    let number : length records ≡ min n (length rs + length stop.tail / size) = omega (arith, ap length whole ∙ length-append rs (placed o.shape others), more, few) in
+    let front : take (length rs) records ≡ rs = ap (take (length rs)) whole ∙ take_at rs (placed o.shape others) (length rs) refl in
+    inr (record {
+      bytes = opens.front ++ rest;
+      params = o.loaded.params;
+      setting = setting_of o;
+      read = Consumes-trans first left left' opens.front rest opens.read stop.read;
+      begins = behind party first left o opens rest;
+      count = length rs;
+      least = subst (λ (w : ℕ). settled o.shape w ≤ length rs) (sym number) stop.least;
+      written = subst (λ (l : List (List ℕ)). Appends taken taken' (lines_of (words (setting_of o)).line l)) (sym front) stop.written;
+    })
+
+pub stops-behind : {T : Type 0} (party : Option ℕ) (o : Opened) (words : Setting → Wording) (first left left' taken taken' : Option (List ℕ)) (result : Result T EngineFault)
+    → Opens party first left o → StopsWalk result (bytes_of o.shape) o.header.reports (words (setting_of o)) left left' taken taken'
+    → StopsEarly party (λ by. lines_of (words by).line) first left' taken taken'
+    ⊎ ((result ≡ Err Write) × StopsInText party (λ by. (words by).text) first left' taken taken')
+stops-behind party o words first left left' taken taken' result opens =
+    ⊎_elim
+    (λ early. inl (StopsEarly-behind party o words first left left' taken taken' opens early))
+    (λ late. inr (late.0, StopsInText-behind party o words first left left' taken taken' opens late.1))
+
+-- where the text is the lines alone, a prefix of the text is one of the lines
+pub early-lines : (party : Option ℕ) (words : Setting → Wording) (W : Type 0) (left left' taken taken' : Option (List ℕ))
+    → ((by : Setting) (records : List (List ℕ)) → (words by).text records ≡ lines_of (words by).line records)
+    → StopsEarly party (λ by. lines_of (words by).line) left left' taken taken' ⊎ (W × StopsInText party (λ by. (words by).text) left left' taken taken')
+    → StopsEarly party (λ by. lines_of (words by).line) left left' taken taken'
+early-lines party words W left left' taken taken' same (inl early) = early
+early-lines party words W left left' taken taken' same (inr (w, late)) = record {
+  bytes = late.bytes;
+  read = late.read;
+  written = inr (record {
+    params = late.params;
+    setting = late.setting;
+    begins = late.is_batch.has;
+    written = subst (TakesPrefix taken taken') (same late.setting (whole_records newest_read party late.setting.shape late.bytes)) late.written;
+  });
+}
+
+-- an end in front of the first record
+pub StopsEarly-front : (party : Option ℕ) (lines : Setting → List (List ℕ) → List ℕ) (left left' taken taken' : Option (List ℕ)) → ConsumesSome left left' → Keeps taken taken' → StopsEarly party lines left left' taken taken'
+StopsEarly-front party lines left left' taken taken' some kept = record { bytes = some.bytes; read = some.gone; written = inl kept }
+
+-- ---- how it ended
 
 -- a fault of the records is one of the file
-pub refused-behind : (party : Option ℕ) (o : Opened) (first left : Option (List ℕ)) (fault : BatchFault)
-    → Opens party first left o → IfSome left (λ rest. records_fault (records_start o) (records_start o + o.header.reports * bytes_of o.shape) rest ≡ Some fault)
-    → IfSome first (λ bytes. IsFault party bytes (Batch fault))
-refused-behind party o first left fault opens is =
-    IfSome-before (λ bytes. IsFault party bytes (Batch fault))
-    (λ rest. records_fault (records_start o) (records_start o + o.header.reports * bytes_of o.shape) rest ≡ Some fault)
+fault-behind : (party : Option ℕ) (o : Opened) (first left : Option (List ℕ)) → Opens party first left o → (fault : EngineFault)
+    → IfFile fault (λ f. IfSome left (λ rest. IsRecordsFault o rest f)) → IfFile fault (λ f. IfSome first (λ bytes. IsFault (batches party) bytes f))
+fault-behind party o first left opens Memory is = tt
+fault-behind party o first left opens Read is = tt
+fault-behind party o first left opens Write is = tt
+fault-behind party o first left opens (Batch fault) is =
+    IfSome-before (λ bytes. IsFault (batches party) bytes (Batch fault)) (λ rest. IsRecordsFault o rest (Batch fault))
     first left opens.front opens.read is (λ rest found. fault-records party first left o opens rest fault found)
+fault-behind party o first left opens (Circuit fault) is =
+    IfSome-before (λ bytes. IsFault (batches party) bytes (Circuit fault)) (λ rest. IsRecordsFault o rest (Circuit fault))
+    first left opens.front opens.read is (λ rest found. absurd found)
 
 -- no more bytes are taken of a file than its head gives, and one to see the end
-pub TakesFew-behind : (party : Option ℕ) (o : Opened) (first left left' : Option (List ℕ))
-    → Opens party first left o → ConsumesAtMost (o.header.reports * bytes_of o.shape + 1) left left' → TakesFew party first left'
+TakesFew-behind : (party : Option ℕ) (o : Opened) (first left left' : Option (List ℕ))
+    → Opens party first left o → ConsumesAtMost (records_size o + 1) left left' → TakesFew (batches party) first left'
 TakesFew-behind party o first left left' opens few =
-    inr (IfSome-consumed (TakesFile party first left') first left opens.front opens.read (λ rest.
+    inr (IfSome-consumed (TakesFile (batches party) first left') first left opens.front opens.read (λ rest.
     let bytes = opens.front ++ rest in
     let size = size-front party o.shape opens.front rest o.header opens.begins in
-    let fits : length opens.front + (o.header.reports * bytes_of o.shape + 1) ≤ size_of o.shape bytes + 1 = omega (arith, size) in
+    let fits : length opens.front + (records_size o + 1) ≤ file_size o.shape bytes + 1 = omega (arith, size) in
     record {
       params = o.loaded.params;
       setting = setting_of o;
       has = behind party first left o opens rest;
-      few = ConsumesAtMost-after first left left' opens.front (o.header.reports * bytes_of o.shape + 1) (size_of o.shape bytes + 1) opens.read few fits;
+      few = ConsumesAtMost-after first left left' opens.front (records_size o + 1) (file_size o.shape bytes + 1) opens.read few fits;
     }))
 
--- a walk's fault is the file's
-pub refused-walk : {T : Type 0} (o : Opened) (left : Option (List ℕ)) (result : Result T EngineFault)
-    → ((fault : BatchFault) → result ≡ Err (Batch fault) → IfSome left (λ rest. records_fault (records_start o) (records_start o + o.header.reports * bytes_of o.shape) rest ≡ Some fault))
-    → ((fault : CircuitFault) → result ≢ Err (Circuit fault))
-    → IfErr result (λ fault. IfFile fault (λ f. (party : Option ℕ) (first : Option (List ℕ)) → Opens party first left o → IfSome first (λ bytes. IsFault party bytes f)))
-refused-walk o left (Ok done) refused none = tt
-refused-walk o left (Err Memory) refused none = tt
-refused-walk o left (Err Read) refused none = tt
-refused-walk o left (Err Write) refused none = tt
-refused-walk o left (Err (Batch fault)) refused none = λ party first opens. refused-behind party o first left fault opens (refused fault refl)
-refused-walk o left (Err (Circuit fault)) refused none = absurd (none fault refl)
+pub Ends-behind : {T : Type 0} (party : Option ℕ) (o : Opened) (first left left' : Option (List ℕ)) (reads reads' reads'' writes writes' : ℕ) (result : Result T EngineFault)
+    → Opens party first left o → reads ≤ reads' → Ends (IsRecordsFault o) (ConsumesAtMost (records_size o + 1)) left left' reads' reads'' writes writes' result
+    → Ends (IsFault (batches party)) (TakesFew (batches party)) first left' reads reads'' writes writes' result
+Ends-behind party o first left left' reads reads' reads'' writes writes' result opens later ends = record {
+  fault =
+      IfErr-weaker result (λ fault. IfFile fault (λ f. IfSome left (λ rest. IsRecordsFault o rest f))) (λ fault. IfFile fault (λ f. IfSome first (λ bytes. IsFault (batches party) bytes f)))
+      (fault-behind party o first left opens) ends.fault;
+  few = TakesFew-behind party o first left left' opens ends.few;
+  read = λ is. let rose = ends.read is in omega (arith, later, rose);
+  write = ends.write;
+  later_in = omega (arith, later, ends.later_in);
+  later_out = ends.later_out;
+}

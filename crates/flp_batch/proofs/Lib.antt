@@ -1,10 +1,24 @@
+-- the lines of some records and of more
 pub mod LineLemmas
+-- what the bytes of a file say behind its front
 pub mod FileLemmas
+-- the records of one segment
+pub mod PassLemmas
+-- one segment after another
 pub mod WalkLemmas
+-- which lines stand written where the input has a fault
+pub mod CutLemmas
+-- the whole file, from what was opened
 pub mod BatchLemmas
+-- two shapes with the same numbers
+mod ShapeLemmas
+-- no file has two answers
 pub mod AnswerLemmas
-pub mod OutcomeLemmas
+-- what opening answers
 pub mod OpenLemmas
+-- from one outcome of a call to what follows there
+pub mod OutcomeLemmas
+-- faults of calls below
 pub mod FaultLemmas
+-- where a reader stands
 pub mod ReaderLemmas
-pub mod ReplyLemmas

@@ -15,6 +15,6 @@ lines_from-joined line earlier (given ∷ records) more =
 pub lines-joined : (line : List (List ℕ) → List ℕ → List ℕ) (records more : List (List ℕ)) → lines_of line (records ++ more) ≡ lines_of line records ++ lines_from line records more
 lines-joined line records more = lines_from-joined line [] records more
 
--- the line of one record more
-pub lines-more : (line : List (List ℕ) → List ℕ → List ℕ) (records : List (List ℕ)) (given : List ℕ) → lines_of line (records ++ given ∷ []) ≡ lines_of line records ++ line records given
-lines-more line records given = lines-joined line records (given ∷ []) ∙ ap (λ (l : List ℕ). lines_of line records ++ l) (append-nil (line records given))
+-- one record has one line
+pub lines_from-one : (line : List (List ℕ) → List ℕ → List ℕ) (earlier : List (List ℕ)) (given : List ℕ) → lines_from line earlier (given ∷ []) ≡ line earlier given
+lines_from-one line earlier given = append-nil (line earlier given)

@@ -1,14 +1,11 @@
--- From what holds at one outcome of a call to what follows there.
+-- From what holds anyway, or at one outcome of a call, to what follows there.
 use Rattle.std.proofs.Common.{Result, Ok, Err}
-use Rattle.std.specs.Prelude.{OnOk, OnErr}
+use Rattle.std.specs.Prelude.{IfOk, OnOk, OnErr}
 
-pub OnOk-map : {T E P Q : Type 0} (r : Result T E) → OnOk r P → (P → Q) → OnOk r Q
-OnOk-map (Ok x) p f = f p
-OnOk-map (Err e) p f = tt
-
-pub OnErr-map : {T E P Q : Type 0} (r : Result T E) → OnErr r P → (P → Q) → OnErr r Q
-OnErr-map (Ok x) p f = tt
-OnErr-map (Err e) p f = f p
+-- two facts of a value give a third
+pub IfOk-both : {T E : Type 0} (r : Result T E) (P Q R : T → Type 0) → IfOk r P → IfOk r Q → ((x : T) → P x → Q x → R x) → IfOk r R
+IfOk-both (Ok x) P Q R p q f = f x p q
+IfOk-both (Err e) P Q R p q f = tt
 
 pub OnOk-both : {T E P Q R : Type 0} (r : Result T E) → OnOk r P → OnOk r Q → (P → Q → R) → OnOk r R
 OnOk-both (Ok x) p q f = f p q

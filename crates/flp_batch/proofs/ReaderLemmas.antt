@@ -1,10 +1,8 @@
 -- Where a reader stands among the records.
-use Rattle.std.proofs.Common.{◌≡◌, ℕ, ◌+◌, ◌*◌, [], Option, List, ap, ◌∙◌, arith}
-use Rattle.std.proofs.KnownBytes.{Consumes-nil}
-use Rattle.flp_report.specs.declared.batch.BatchReader.{BatchReader}
+use Rattle.std.proofs.Common.{◌≡◌, ℕ, ◌+◌, ◌*◌, ap, ◌∙◌, arith}
+use Rattle.flp_report.specs.Reader.{BatchReader}
 use Rattle.flp_report.specs.declared.shape.Shape.{Shape}
 use Rattle.flp_report.specs.Shape.{bytes_of}
-use Rattle.flp_report.specs.Reads.{ConsumesAtMost}
 use Rattle.flp_report.specs.Reader.{size_of_file, claims_left, reports_left, shape_given}
 use Rattle.flp_batch.specs.declared.front.Opened.{Opened}
 use Rattle.flp_batch.specs.Opened.{records_start, IsReady}
@@ -19,7 +17,3 @@ size-ready reader o ready =
     ∙ (ap (λ (n : ℕ). start + 16 * 0 + n * bytes_of (shape_given reader)) ready.reports
     ∙ (ap (λ (s : Shape). start + 16 * 0 + o.header.reports * bytes_of s) ready.given
     ∙ none)))
-
--- nothing was read
-pub ConsumesAtMost-none : (limit : ℕ) (left : Option (List ℕ)) → ConsumesAtMost limit left left
-ConsumesAtMost-none limit left = record { bytes = []; few = omega arith; gone = Consumes-nil left }

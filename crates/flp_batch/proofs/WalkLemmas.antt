@@ -1,38 +1,36 @@
--- How the records of a batch add up, one after another.
-use Rattle.std.proofs.Common.{◌≡◌, ◌≢◌, ℕ, ◌+◌, ◌*◌, ◌<◌, ◌≤◌, Option, Some, None, List, [], ◌∷◌, ◌++◌, length, refl, sym, ap, subst, ◌∙◌, arith, append_assoc, append-nil, length-append}
-use Rattle.std.proofs.lemmas.List.Elements.{All-nil, All-push}
-use Rattle.std.specs.Prelude.{IfSome}
+-- How the records of a batch add up, one segment after another.
+use Rattle.std.proofs.Common.{◌≡◌, ◌≢◌, ◌⊎◌, inl, inr, Result, Ok, Err, ℕ, ◌+◌, ◌*◌, ◌<◌, ◌≤◌, Option, Some, List, [], ◌∷◌, ◌++◌, length, refl, sym, ap, subst, ◌∙◌, arith, append-nil, length-append}
+use Rattle.std.proofs.lemmas.List.Elements.{All-nil, All-append}
+use Rattle.std.proofs.lemmas.List.Folds.{concat-append}
+use Rattle.std.specs.Prelude.{IfSome, IfErr, OnOk, OnErr}
 use Rattle.std.specs.List.{concat}
-use Rattle.std.specs.Io.KnownBytes.{Consumes, Appends, Keeps}
-use Rattle.std.proofs.KnownBytes.{Consumes-trans, Consumes-nil, Appends-trans, Appends-nil}
+use Rattle.std.specs.Io.KnownBytes.{Consumes, Appends, Keeps, IsAtEnd}
+use Rattle.std.proofs.KnownBytes.{Consumes-trans, Consumes-nil, Appends-trans, Appends-nil, Appends-kept}
+use Rattle.flp_io.specs.Reads.{ConsumesSome, ConsumesAtMost}
 use Rattle.flp_io.specs.Writes.{TakesPrefix}
+use Rattle.flp_io.proofs.ReadLemmas.{ConsumesSome-refl}
 use Rattle.flp_io.proofs.WriteLemmas.{TakesPrefix-refl, TakesPrefix-whole, TakesPrefix-after}
 use Rattle.flp_report.specs.declared.fault.BatchFault.{BatchFault}
 use Rattle.flp_report.specs.declared.fault.BatchFault.TheVariants.{Trailing}
+use Rattle.flp_report.specs.declared.fault.ReadFault.{ReadFault}
+use Rattle.flp_report.specs.declared.fault.ReadFault.TheVariants as read
+use Rattle.flp_report.specs.Pieces.{IsCut}
+use Rattle.flp_report.specs.Shape.{bytes_of}
+use Rattle.flp_report.specs.Buckets.{segment_fault}
 use Rattle.flp_report.specs.Batch.{records_fault}
-use Rattle.flp_report.specs.Reads.{ConsumesAtMost, EndedShort}
-use Rattle.flp_report.proofs.LawLemmas.{length-records}
-use Rattle.flp_report.proofs.KnownLemmas.{IfSome-before, EndedShort-before, EndedShort-known}
-use Rattle.flp_report.proofs.PartFaultLemmas.{records_fault-short, records_fault-trailing}
+use Rattle.flp_report.proofs.BucketLemmas.{placed-one}
+use Rattle.flp_report.proofs.LawLemmas.{length-records, records_fault-segment, records_fault-trailing}
+use Rattle.flp_report.proofs.KnownLemmas.{IfSome-before}
 use Rattle.flp_report.proofs.ReadsLemmas.{ConsumesAtMost-after}
-use Rattle.flp_batch.specs.Lines.{lines_of}
-use Rattle.flp_batch.specs.Walk.{JudgesOne, StopsBefore, StopsWithin, Judges, Stops}
-use Rattle.flp_batch.proofs.LineLemmas.{lines-more}
-
--- the bytes of one record more
-concat-more : (rs : List (List ℕ)) (r : List ℕ) → concat (rs ++ r ∷ []) ≡ concat rs ++ r
-concat-more [] r = append-nil r
-concat-more (first ∷ rs) r = ap (λ (b : List ℕ). first ++ b) (concat-more rs r) ∙ sym (append_assoc first (concat rs) r)
-
--- what follows unchanged bytes follows the bytes before them
-pub Appends-kept : (a b c : Option (List ℕ)) (text : List ℕ) → Appends a b text → Keeps b c → Appends a c text
-Appends-kept None b c text p q = tt
-Appends-kept (Some x) None c text p q = absurd p
-Appends-kept (Some x) (Some y) None text p q = absurd q
-Appends-kept (Some x) (Some y) (Some z) text p q = q ∙ p
-
-length-more : (rs : List (List ℕ)) (r : List ℕ) → length (rs ++ r ∷ []) ≡ length rs + 1
-length-more rs r = length-append rs (r ∷ [])
+use Rattle.flp_batch.specs.declared.fault.EngineFault.{EngineFault}
+use Rattle.flp_batch.specs.declared.fault.EngineFault.TheVariants.{Memory, Read, Write, Batch, Circuit}
+use Rattle.flp_batch.specs.declared.front.Opened.{Opened}
+use Rattle.flp_batch.specs.Ends.{Ends}
+use Rattle.flp_batch.specs.Fault.{fault_from, IfFile, IsOfFront}
+use Rattle.flp_batch.specs.Lines.{Wording, lines_from, lines_of}
+use Rattle.flp_batch.specs.Opened.{records_start, IsRecordsFault}
+use Rattle.flp_batch.specs.Walk.{JudgesSome, Judges, Stops, Tells, TellsFront, StopsWalk}
+use Rattle.flp_batch.proofs.LineLemmas.{lines-joined}
 
 -- before the first record
 pub Judges-none : (size : ℕ) (line : List (List ℕ) → List ℕ → List ℕ) (follows : List (List ℕ) → Type 0) (left taken : Option (List ℕ))
@@ -40,19 +38,24 @@ pub Judges-none : (size : ℕ) (line : List (List ℕ) → List ℕ → List ℕ
 Judges-none size line follows left taken fresh =
     record { records = []; number = refl; sizes = All-nil (λ r. length r ≡ size); read = Consumes-nil left; follows_are = fresh; written = Appends-nil taken }
 
--- one record more
-pub Judges-more : (size n : ℕ) (line : List (List ℕ) → List ℕ → List ℕ) (follows follows' : List (List ℕ) → Type 0) (left left' left'' taken taken' taken'' : Option (List ℕ))
-    → Judges size n line follows left left' taken taken' → JudgesOne size line follows follows' left' left'' taken' taken'' → Judges size (n + 1) line follows' left left'' taken taken''
-Judges-more size n line follows follows' left left' left'' taken taken' taken'' all one =
+-- the records of one segment more
+pub Judges-more : (size n count : ℕ) (line : List (List ℕ) → List ℕ → List ℕ) (follows follows' : List (List ℕ) → Type 0) (left left' left'' taken taken' taken'' : Option (List ℕ)) (bytes : List ℕ) (more : List (List ℕ))
+    → Judges size n line follows left left' taken taken' → IsCut size count bytes more → Consumes left' left'' bytes
+    → ((earlier : List (List ℕ)) → follows earlier → JudgesSome line follows' earlier more taken' [] taken'' []) → Judges size (n + count) line follows' left left'' taken taken''
+Judges-more size n count line follows follows' left left' left'' taken taken' taken'' bytes more all cut gone judged =
     let rs = all.records in
-    let r = one.given in
+    let some = judged rs all.follows_are in
+    let text = lines_from line rs more in
+    let out : some.passed.out ≡ text = sym (append-nil some.passed.out) ∙ sym some.passed.split in
+    let written = Appends-trans taken taken' taken'' (lines_of line rs) text all.written (subst (Appends taken' taken'') out some.passed.written) in
+    let read = Consumes-trans left left' left'' (concat rs) bytes all.read gone in
     record {
-      records = rs ++ r ∷ [];
-      number = length-more rs r ∙ ap (λ (k : ℕ). k + 1) all.number;
-      sizes = All-push (λ r. length r ≡ size) rs r all.sizes one.size_is;
-      read = subst (Consumes left left'') (sym (concat-more rs r)) (Consumes-trans left left' left'' (concat rs) r all.read one.read);
-      follows_are = one.more rs all.follows_are;
-      written = subst (Appends taken taken'') (sym (lines-more line rs r)) (Appends-trans taken taken' taken'' (lines_of line rs) (line rs r) all.written (one.written rs all.follows_are));
+      records = rs ++ more;
+      number = length-append rs more ∙ (ap (λ (k : ℕ). k + length more) all.number ∙ ap (λ (k : ℕ). n + k) cut.number);
+      sizes = All-append (λ r. length r ≡ size) rs more all.sizes cut.sizes;
+      read = subst (Consumes left left'') (ap (λ (b : List ℕ). concat rs ++ b) (sym cut.joined) ∙ sym (concat-append rs more)) read;
+      follows_are = some.follows_are;
+      written = subst (Appends taken taken'') (sym (lines-joined line rs more)) written;
     }
 
 -- an end before the first record
@@ -60,36 +63,115 @@ pub Stops-none : (size n : ℕ) (line : List (List ℕ) → List ℕ → List �
 Stops-none size n line left taken =
     record { records = []; tail = []; number = omega arith; sizes = All-nil (λ r. length r ≡ size); read = Consumes-nil left; written = TakesPrefix-refl taken [] }
 
+-- so many are all
+pub all-judged : (size i n : ℕ) (line : List (List ℕ) → List ℕ → List ℕ) (follows : List (List ℕ) → Type 0) (left left' taken taken' : Option (List ℕ))
+    → i ≡ n → Judges size i line follows left left' taken taken' → Judges size n line follows left left' taken taken'
+all-judged size i n line follows left left' taken taken' same all = subst (λ (k : ℕ). Judges size k line follows left left' taken taken') same all
+
+-- the end of the input takes nothing
+pub Judges-end : (size n : ℕ) (line : List (List ℕ) → List ℕ → List ℕ) (follows : List (List ℕ) → Type 0) (left left' left'' taken taken' : Option (List ℕ))
+    → Judges size n line follows left left' taken taken' → Consumes left' left'' [] → Judges size n line follows left left'' taken taken'
+Judges-end size n line follows left left' left'' taken taken' all none = record {
+  records = all.records;
+  number = all.number;
+  sizes = all.sizes;
+  read = subst (Consumes left left'') (append-nil (concat all.records)) (Consumes-trans left left' left'' (concat all.records) [] all.read none);
+  follows_are = all.follows_are;
+  written = all.written;
+}
+
 -- an end before the next record
 pub Stops-before : (size n m : ℕ) (line : List (List ℕ) → List ℕ → List ℕ) (follows : List (List ℕ) → Type 0) (left left' left'' taken taken' taken'' : Option (List ℕ))
-    → Judges size n line follows left left' taken taken' → n ≤ m → StopsBefore left' left'' taken' taken'' → Stops size m line left left'' taken taken''
-Stops-before size n m line follows left left' left'' taken taken' taken'' all few stop =
+    → Judges size n line follows left left' taken taken' → n ≤ m → ConsumesSome left' left'' → Keeps taken' taken'' → Stops size m line left left'' taken taken''
+Stops-before size n m line follows left left' left'' taken taken' taken'' all few some kept =
     let rs = all.records in
     record {
       records = rs;
-      tail = stop.read.bytes;
-      number = omega (arith, all.number);
+      tail = some.bytes;
+      number = omega (arith, all.number, few);
       sizes = all.sizes;
-      read = Consumes-trans left left' left'' (concat rs) stop.read.bytes all.read stop.read.gone;
-      written = TakesPrefix-whole taken taken'' (lines_of line rs) (Appends-kept taken taken' taken'' (lines_of line rs) all.written stop.kept);
+      read = Consumes-trans left left' left'' (concat rs) some.bytes all.read some.gone;
+      written = TakesPrefix-whole taken taken'' (lines_of line rs) (Appends-kept taken taken' taken'' (lines_of line rs) all.written kept);
     }
 
--- an end within the line of the next record
-pub Stops-within : (size n m : ℕ) (line : List (List ℕ) → List ℕ → List ℕ) (follows : List (List ℕ) → Type 0) (left left' left'' taken taken' taken'' : Option (List ℕ))
-    → Judges size n line follows left left' taken taken' → n < m → StopsWithin size line follows left' left'' taken' taken'' → Stops size m line left left'' taken taken''
-Stops-within size n m line follows left left' left'' taken taken' taken'' all few stop =
+-- an end within the lines of the next segment
+pub Stops-within : (size n count m : ℕ) (line : List (List ℕ) → List ℕ → List ℕ) (follows : List (List ℕ) → Type 0) (left left' left'' taken taken' taken'' : Option (List ℕ)) (bytes : List ℕ) (more : List (List ℕ))
+    → Judges size n line follows left left' taken taken' → n + count ≤ m → IsCut size count bytes more → Consumes left' left'' bytes
+    → ((earlier : List (List ℕ)) → follows earlier → TakesPrefix taken' taken'' (lines_from line earlier more)) → Stops size m line left left'' taken taken''
+Stops-within size n count m line follows left left' left'' taken taken' taken'' bytes more all few cut gone front =
     let rs = all.records in
-    let r = stop.given in
-    let read = Consumes-trans left left' left'' (concat rs) r all.read stop.read in
-    let bytes : concat rs ++ r ≡ concat (rs ++ r ∷ []) ++ [] = sym (append-nil (concat (rs ++ r ∷ [])) ∙ concat-more rs r) in
+    let read = Consumes-trans left left' left'' (concat rs) bytes all.read gone in
+    let joined : concat rs ++ bytes ≡ concat (rs ++ more) ++ [] =
+    ap (λ (b : List ℕ). concat rs ++ b) (sym cut.joined) ∙ (sym (concat-append rs more) ∙ sym (append-nil (concat (rs ++ more)))) in
     record {
-      records = rs ++ r ∷ [];
+      records = rs ++ more;
       tail = [];
-      number = omega (arith, length-more rs r, all.number);
-      sizes = All-push (λ r. length r ≡ size) rs r all.sizes stop.size_is;
-      read = subst (Consumes left left'') bytes read;
-      written = subst (TakesPrefix taken taken'') (sym (lines-more line rs r)) (TakesPrefix-after taken taken' taken'' (lines_of line rs) (line rs r) all.written (stop.written rs all.follows_are));
+      number = omega (arith, length-append rs more, all.number, cut.number, few);
+      sizes = All-append (λ r. length r ≡ size) rs more all.sizes cut.sizes;
+      read = subst (Consumes left left'') joined read;
+      written = subst (TakesPrefix taken taken'') (sym (lines-joined line rs more)) (TakesPrefix-after taken taken' taken'' (lines_of line rs) (lines_from line rs more) all.written (front rs all.follows_are));
     }
+
+-- an end behind all records, before anything else was written
+pub Stops-all : (size n : ℕ) (line : List (List ℕ) → List ℕ → List ℕ) (follows : List (List ℕ) → Type 0) (left left' taken taken' taken'' : Option (List ℕ))
+    → Judges size n line follows left left' taken taken' → Keeps taken' taken'' → Stops size n line left left' taken taken''
+Stops-all size n line follows left left' taken taken' taken'' all kept =
+    let few : n ≤ n = omega arith in
+    Stops-before size n n line follows left left' left' taken taken' taken'' all few (ConsumesSome-refl left') kept
+
+-- the end of the input, and what follows the lines
+pub Tells-behind : (size n : ℕ) (line : List (List ℕ) → List ℕ → List ℕ) (text : List (List ℕ) → List ℕ) (ending : List ℕ) (follows : List (List ℕ) → Type 0) (left left' taken taken' taken'' : Option (List ℕ))
+    → Judges size n line follows left left' taken taken' → IsAtEnd left' → ((records : List (List ℕ)) → follows records → lines_of line records ++ ending ≡ text records)
+    → Appends taken' taken'' ending → Tells size n text left left' taken taken''
+Tells-behind size n line text ending follows left left' taken taken' taken'' all ended same last = record {
+  records = all.records;
+  number = all.number;
+  sizes = all.sizes;
+  read = all.read;
+  ended = ended;
+  written =
+      subst (Appends taken taken'') (same all.records all.follows_are)
+      (Appends-trans taken taken' taken'' (lines_of line all.records) ending all.written last);
+}
+
+-- a prefix of it
+pub TellsFront-behind : (size n : ℕ) (line : List (List ℕ) → List ℕ → List ℕ) (text : List (List ℕ) → List ℕ) (ending : List ℕ) (follows : List (List ℕ) → Type 0) (left left' taken taken' taken'' : Option (List ℕ))
+    → Judges size n line follows left left' taken taken' → IsAtEnd left' → ((records : List (List ℕ)) → follows records → lines_of line records ++ ending ≡ text records)
+    → TakesPrefix taken' taken'' ending → TellsFront size n text left left' taken taken''
+TellsFront-behind size n line text ending follows left left' taken taken' taken'' all ended same last = record {
+  records = all.records;
+  number = all.number;
+  sizes = all.sizes;
+  read = all.read;
+  ended = ended;
+  written =
+      subst (TakesPrefix taken taken'') (same all.records all.follows_are)
+      (TakesPrefix-after taken taken' taken'' (lines_of line all.records) ending all.written last);
+}
+
+-- what the writing of the ending answered
+pub tells-ending : {T : Type 0} (size n : ℕ) (words : Wording) (ending : List ℕ) (follows : List (List ℕ) → Type 0) (left left' taken taken' taken'' : Option (List ℕ)) (r : Result T EngineFault)
+    → Judges size n words.line follows left left' taken taken' → IsAtEnd left'
+    → (r ≢ Err Memory → (records : List (List ℕ)) → follows records → lines_of words.line records ++ ending ≡ words.text records)
+    → OnOk r (Appends taken' taken'' ending) → OnOk r (Tells size n words.text left left' taken taken'')
+tells-ending size n words ending follows left left' taken taken' taken'' (Ok x) all ended same last =
+    Tells-behind size n words.line words.text ending follows left left' taken taken' taken'' all ended (same (λ is. let no : ⊥ = cc in no)) last
+tells-ending size n words ending follows left left' taken taken' taken'' (Err e) all ended same last = tt
+
+pub stops-ending : {T : Type 0} (size n : ℕ) (words : Wording) (ending : List ℕ) (follows : List (List ℕ) → Type 0) (Failed : Type 0) (left left' taken taken' taken'' : Option (List ℕ)) (r : Result T EngineFault)
+    → Judges size n words.line follows left left' taken taken' → IsAtEnd left'
+    → (r ≢ Err Memory → (records : List (List ℕ)) → follows records → lines_of words.line records ++ ending ≡ words.text records)
+    → (r ≡ Err Write → TakesPrefix taken' taken'' ending) → (r ≡ Err Memory → Keeps taken' taken'')
+    → OnErr r ((r ≡ Err Memory) ⊎ ((r ≡ Err Write) × Failed)) → OnErr r (StopsWalk r size n words left left' taken taken'')
+stops-ending size n words ending follows Failed left left' taken taken' taken'' (Ok x) all ended same front kept cause = tt
+stops-ending size n words ending follows Failed left left' taken taken' taken'' (Err e) all ended same front kept (inl memory) =
+    inl (Stops-all size n words.line follows left left' taken taken' taken'' all (kept memory))
+stops-ending size n words ending follows Failed left left' taken taken' taken'' (Err e) all ended same front kept (inr write) =
+    let first = write.0 in
+    inr (
+      first,
+      TellsFront-behind size n words.line words.text ending follows left left' taken taken' taken'' all ended (same (λ is. let no : ⊥ = cc in no)) (front first),
+    )
 
 -- how many bytes were read
 pub Judges-few : (size n limit : ℕ) (line : List (List ℕ) → List ℕ → List ℕ) (follows : List (List ℕ) → Type 0) (left left' left'' taken taken' : Option (List ℕ)) (more : ℕ)
@@ -98,62 +180,77 @@ Judges-few size n limit line follows left left' left'' taken taken' more all few
     let bytes = length-records size all.records all.sizes ∙ ap (λ (k : ℕ). k * size) all.number in
     ConsumesAtMost-after left left' left'' (concat all.records) more limit all.read few (omega (arith, bytes, fits))
 
--- an input that ends within the next record ends within all that are left
-pub EndedShort-after : (size n m place whole : ℕ) (line : List (List ℕ) → List ℕ → List ℕ) (follows : List (List ℕ) → Type 0) (left left' taken taken' : Option (List ℕ)) (fault : BatchFault)
-    → Judges size n line follows left left' taken taken' → n * size + size ≤ m * size → EndedShort left' (place + n * size) size whole fault → EndedShort left place (m * size) whole fault
-EndedShort-after size n m place whole line follows left left' taken taken' fault all below short =
-    let bytes = length-records size all.records all.sizes ∙ ap (λ (k : ℕ). k * size) all.number in
-    EndedShort-before left left' (concat all.records) place (n * size) size (m * size) whole fault all.read bytes below short
-
--- the same step, told with an equal size and an equal line
-pub JudgesOne-same : (size size' : ℕ) (line line' : List (List ℕ) → List ℕ → List ℕ) (follows follows' : List (List ℕ) → Type 0) (left left' taken taken' : Option (List ℕ))
-    → size ≡ size' → line ≡ line' → JudgesOne size line follows follows' left left' taken taken' → JudgesOne size' line' follows follows' left left' taken taken'
-JudgesOne-same size size' line line' follows follows' left left' taken taken' s l one =
-    let P : ℕ → Type 0 = λ n. JudgesOne n line follows follows' left left' taken taken' in
-    let Q : (List (List ℕ) → List ℕ → List ℕ) → Type 0 = λ f. JudgesOne size' f follows follows' left left' taken taken' in
-    subst Q l (subst P s one)
-
-pub StopsWithin-same : (size size' : ℕ) (line line' : List (List ℕ) → List ℕ → List ℕ) (follows : List (List ℕ) → Type 0) (left left' taken taken' : Option (List ℕ))
-    → size ≡ size' → line ≡ line' → StopsWithin size line follows left left' taken taken' → StopsWithin size' line' follows left left' taken taken'
-StopsWithin-same size size' line line' follows left left' taken taken' s l one =
-    let P : ℕ → Type 0 = λ n. StopsWithin n line follows left left' taken taken' in
-    let Q : (List (List ℕ) → List ℕ → List ℕ) → Type 0 = λ f. StopsWithin size' f follows left left' taken taken' in
-    subst Q l (subst P s one)
-
--- a reading that ended short, told with equal numbers
-pub EndedShort-same : (left : Option (List ℕ)) (place place' size size' whole whole' : ℕ) (fault : BatchFault)
-    → place ≡ place' → size ≡ size' → whole ≡ whole' → EndedShort left place size whole fault → EndedShort left place' size' whole' fault
-EndedShort-same left place place' size size' whole whole' fault p s w short =
-    let P : ℕ → Type 0 = λ n. EndedShort left n size whole fault in
-    let Q : ℕ → Type 0 = λ n. EndedShort left place' n whole fault in
-    let R : ℕ → Type 0 = λ n. EndedShort left place' size' n fault in
-    subst R w (subst Q s (subst P p short))
-
--- a limit that is equal
-pub ConsumesAtMost-same : (left left' : Option (List ℕ)) (n m : ℕ) → n ≡ m → ConsumesAtMost n left left' → ConsumesAtMost m left left'
-ConsumesAtMost-same left left' n m same few = let P : ℕ → Type 0 = λ k. ConsumesAtMost k left left' in subst P same few
-
--- the first fault of records that end short
-pub records-short : (start wanted : ℕ) (left : Option (List ℕ)) (fault : BatchFault)
-    → EndedShort left start wanted (start + wanted) fault → IfSome left (λ rest. records_fault start (start + wanted) rest ≡ Some fault)
-records-short start wanted left fault short =
-    EndedShort-known left start wanted (start + wanted) fault (λ rest. records_fault start (start + wanted) rest ≡ Some fault) short (λ rest ended.
-    let none : List ℕ = [] in
-    let place : start ≡ start + length none = omega arith in
-    let within : start + length none + wanted ≤ start + wanted = omega arith in
-    records_fault-short start wanted (start + wanted) none rest fault (EndedShort-same (Some rest) start (start + length none) wanted wanted (start + wanted) (start + wanted) fault place refl refl ended) within)
+-- the first fault of a batch of version 1 is that of the next segment, behind the records that were judged
+pub records-refused : (o : Opened) (n count : ℕ) (line : List (List ℕ) → List ℕ → List ℕ) (follows : List (List ℕ) → Type 0) (left left' taken taken' : Option (List ℕ)) (place before whole : ℕ) (fault : BatchFault)
+    → o.shape.version ≢ 2 → 1 ≤ o.shape.buckets → Judges (bytes_of o.shape) n line follows left left' taken taken' → n + count ≤ o.header.reports
+    → place ≡ n → before ≡ records_start o + n * bytes_of o.shape → whole ≡ records_start o + o.header.reports * bytes_of o.shape
+    → IfSome left' (λ rest. segment_fault o.shape place before count whole rest ≡ Some fault)
+    → IfSome left (λ rest. records_fault o.shape (records_start o) o.header.reports rest ≡ Some fault)
+records-refused o n count line follows left left' taken taken' place before whole fault one some all below p b w is =
+    let records = all.records in
+    let size = bytes_of o.shape in
+    let start = records_start o in
+    let bytes : length (concat records) ≡ n * size = length-records size records all.sizes ∙ ap (λ (k : ℕ). k * size) all.number in
+    let number : place ≡ length records = p ∙ sym all.number in
+    let behind : before ≡ start + length (concat records) = b ∙ ap (λ (k : ℕ). start + k) (sym bytes) in
+    let few : length records + count ≤ o.header.reports = omega (arith, all.number, below) in
+    IfSome-before (λ rest. records_fault o.shape start o.header.reports rest ≡ Some fault) (λ rest. segment_fault o.shape place before count whole rest ≡ Some fault) left left' (concat records) all.read is (λ rest found.
+    let same : segment_fault o.shape place before count whole rest ≡ segment_fault o.shape (length records) (start + length (concat records)) count (start + o.header.reports * size) rest =
+    λ i. segment_fault o.shape (number i) (behind i) count (w i) rest in
+    records_fault-segment o.shape start o.header.reports count records rest fault all.sizes (placed-one o.shape records one some) few (sym same ∙ found))
 
 -- a list that is not empty
 length-some : (xs : List ℕ) → xs ≢ [] → 0 < length xs
 length-some [] some = absurd (some refl)
 length-some (x ∷ xs) some = omega arith
 
--- the first fault of records with a byte behind them
-pub records-trailing : (size n start : ℕ) (line : List (List ℕ) → List ℕ → List ℕ) (follows : List (List ℕ) → Type 0) (left left' taken taken' : Option (List ℕ)) (fault : BatchFault)
-    → Judges size n line follows left left' taken taken' → (fault ≡ Trailing) × IfSome left' (λ rest. rest ≢ []) → IfSome left (λ rest. records_fault start (start + n * size) rest ≡ Some fault)
-records-trailing size n start line follows left left' taken taken' fault all more =
-    let records = concat all.records in
-    let bytes = length-records size all.records all.sizes ∙ ap (λ (k : ℕ). k * size) all.number in
-    IfSome-before (λ rest. records_fault start (start + n * size) rest ≡ Some fault) (λ rest. rest ≢ []) left left' records all.read more.1 (λ rest some.
-    let long : start + n * size < start + length (records ++ rest) = omega (arith, length-append records rest, bytes, length-some rest some) in
-    records_fault-trailing start (start + n * size) (records ++ rest) long ∙ ap (λ (b : BatchFault). Some b) (sym more.0))
+-- the first fault of such records with a byte behind them
+pub records-trailing : (o : Opened) (line : List (List ℕ) → List ℕ → List ℕ) (follows : List (List ℕ) → Type 0) (left left' taken taken' : Option (List ℕ)) (fault : BatchFault)
+    → o.shape.version ≢ 2 → 1 ≤ o.shape.buckets → Judges (bytes_of o.shape) o.header.reports line follows left left' taken taken'
+    → (fault ≡ Trailing) × IfSome left' (λ rest. rest ≢ []) → IfSome left (λ rest. records_fault o.shape (records_start o) o.header.reports rest ≡ Some fault)
+records-trailing o line follows left left' taken taken' fault one some all more =
+    let records = all.records in
+    let start = records_start o in
+    IfSome-before (λ rest. records_fault o.shape start o.header.reports rest ≡ Some fault) (λ rest. rest ≢ []) left left' (concat records) all.read more.1 (λ rest left_over.
+    records_fault-trailing o.shape start o.header.reports records rest all.sizes (placed-one o.shape records one some) all.number (length-some rest left_over) ∙ ap (λ (b : BatchFault). Some b) (sym more.0))
+
+-- what is said of a walk's fault, from what is said of each kind
+pub records-fault : {T : Type 0} (o : Opened) (left : Option (List ℕ)) (result : Result T EngineFault)
+    → ((fault : BatchFault) → result ≡ Err (Batch fault) → IfSome left (λ rest. records_fault o.shape (records_start o) o.header.reports rest ≡ Some fault))
+    → IfErr result (λ fault. IsOfFront fault → ⊥)
+    → IfErr result (λ fault. IfFile fault (λ f. IfSome left (λ rest. IsRecordsFault o rest f)))
+records-fault o left (Ok done) refused none = tt
+records-fault o left (Err Memory) refused none = tt
+records-fault o left (Err Read) refused none = tt
+records-fault o left (Err Write) refused none = tt
+records-fault o left (Err (Batch fault)) refused none = refused fault refl
+records-fault o left (Err (Circuit fault)) refused none = absurd (none tt)
+
+-- the end of the input, where it is not there
+pub end-fault : {E : Type 0} (o : Opened) (line : List (List ℕ) → List ℕ → List ℕ) (follows : List (List ℕ) → Type 0) (left left' taken taken' : Option (List ℕ)) (r : Result E ReadFault) (f : ReadFault)
+    → o.shape.version ≢ 2 → 1 ≤ o.shape.buckets → r ≡ Err f → Judges (bytes_of o.shape) o.header.reports line follows left left' taken taken'
+    → (r ≡ Err read.Failed) ⊎ ((r ≡ Err (read.Batch Trailing)) × IfSome left' (λ rest. rest ≢ []))
+    → IfFile (fault_from f) (λ f. IfSome left (λ rest. IsRecordsFault o rest f))
+end-fault o line follows left left' taken taken' r read.Memory one some at all (inl is) = tt
+end-fault o line follows left left' taken taken' r read.Memory one some at all (inr is) = tt
+end-fault o line follows left left' taken taken' r read.Failed one some at all (inl is) = tt
+end-fault o line follows left left' taken taken' r read.Failed one some at all (inr is) = tt
+end-fault o line follows left left' taken taken' r (read.Batch b) one some at all (inl is) = let no : ⊥ = cc in absurd no
+end-fault o line follows left left' taken taken' r (read.Batch b) one some at all (inr is) =
+    let last : b ≡ Trailing = cc in
+    records-trailing o line follows left left' taken taken' b one some all (last, is.1)
+
+-- want of memory, before anything was done
+pub Ends-memory : {T : Type 0} (o : Opened) (limit : ℕ) (left : Option (List ℕ)) (reads writes : ℕ) (result : Result T EngineFault)
+    → result ≡ Err Memory → Ends (IsRecordsFault o) (ConsumesAtMost limit) left left reads reads writes writes result
+Ends-memory {T = T} o limit left reads writes result is =
+    let here : Ends {T = T} (IsRecordsFault o) (ConsumesAtMost limit) left left reads reads writes writes (Err Memory) =
+    record {
+      fault = tt;
+      few = record { bytes = []; few = omega arith; gone = Consumes-nil left };
+      read = λ other. let no : ⊥ = cc in absurd no;
+      write = λ other. let no : ⊥ = cc in absurd no;
+      later_in = omega arith;
+      later_out = omega arith;
+    } in
+    subst (λ (r : Result T EngineFault). Ends (IsRecordsFault o) (ConsumesAtMost limit) left left reads reads writes writes r) (sym is) here

@@ -1,5 +1,7 @@
 -- Faults of the calls below, as those of a walk.
 use Rattle.std.specs.Prelude.{⊤}
+use Rattle.flp_report.specs.declared.fault.BatchFault.{BatchFault}
+use Rattle.flp_report.specs.declared.fault.BatchFault.TheVariants as batch
 use Rattle.flp_report.specs.declared.fault.ReadFault.{ReadFault}
 use Rattle.flp_report.specs.declared.fault.ReadFault.TheVariants as read
 use Rattle.flp_load.specs.declared.fault.LoadFault.{LoadFault}
@@ -25,3 +27,35 @@ IfFile Read P = ⊤
 IfFile Write P = ⊤
 IfFile (Batch fault) P = P (Batch fault)
 IfFile (Circuit fault) P = P (Circuit fault)
+
+-- a fault that lies in front of the records, but for the end of the input: nothing is written where it is answered
+abbrev pub IsOfHead : BatchFault → Type 0
+IsOfHead batch.Magic = ⊤
+IsOfHead (batch.Version number) = ⊤
+IsOfHead (batch.Shares number) = ⊤
+IsOfHead (batch.Proofs number) = ⊤
+IsOfHead (batch.TextLength size) = ⊤
+IsOfHead (batch.ClaimsOrder claim) = ⊤
+IsOfHead (batch.TooLarge size) = ⊤
+IsOfHead (batch.Truncated came need) = ⊥
+IsOfHead batch.Trailing = ⊥
+IsOfHead (batch.Word job word) = ⊤
+IsOfHead (batch.Party shares) = ⊤
+IsOfHead (batch.Buckets buckets) = ⊤
+IsOfHead (batch.Width width) = ⊤
+IsOfHead (batch.Bucket place bucket) = ⊥
+
+abbrev pub IsOfFront : EngineFault → Type 0
+IsOfFront Memory = ⊥
+IsOfFront Read = ⊥
+IsOfFront Write = ⊥
+IsOfFront (Batch fault) = IsOfHead fault
+IsOfFront (Circuit fault) = ⊤
+
+-- a fault of the input: it failed, or it is no batch
+abbrev pub IsOfInput : EngineFault → Type 0
+IsOfInput Memory = ⊥
+IsOfInput Read = ⊤
+IsOfInput Write = ⊥
+IsOfInput (Batch fault) = ⊤
+IsOfInput (Circuit fault) = ⊤

@@ -1,50 +1,73 @@
--- A whole file: the batch that it is, or its first fault. From what its head says up.
-use Rattle.std.specs.Prelude.{ℕ, ◌≡◌, ◌⊎◌, List, Option, None, Some}
+-- A whole file of either format: what it is, or its first fault, and how much of it is read. From what its head says up.
+use Rattle.std.specs.Prelude.{ℕ, ◌≡◌, ◌+◌, ◌⊎◌, List, Option, None, Some, IfSome, take, drop}
 use Rattle.flp_syntax.specs.declared.syntax.Params.{Params}
 use Rattle.flp_load.specs.declared.fault.CircuitFault.{CircuitFault}
 use Rattle.flp_load.specs.Loaded.{IsLoaded}
 use Rattle.flp_load.specs.Fault.{IsCircuitFault}
 use Rattle.flp_report.specs.declared.fault.BatchFault.{BatchFault}
-use Rattle.flp_report.specs.Head.{head_fault, start_fault, stop_of}
-use Rattle.flp_report.specs.Batch.{batch_letters, header_of, claims_of, claims_end, fault_of}
+use Rattle.flp_report.specs.Head.{number_at}
+use Rattle.flp_io.specs.Reads.{ConsumesAtMost}
+use Rattle.flp_report.specs.Reads.{ConsumesWithin}
 use Rattle.flp_batch.specs.declared.fault.EngineFault.{EngineFault}
 use Rattle.flp_batch.specs.declared.fault.EngineFault.TheVariants.{Memory, Read, Write, Batch, Circuit}
-use Rattle.flp_batch.specs.Setting.{Setting, IsShapeOf}
+use Rattle.flp_batch.specs.Setting.{Setting}
+use Rattle.flp_batch.specs.JobSetting.{JobSetting}
+use Rattle.flp_batch.specs.Format.{Format, batches, job_files, circuit_start, fault_of_head, SettingOf, circuit_in, FitsSetting, layout_fault, size_with, front_size}
 
--- the head of a file has no fault, its text is loaded as a circuit, and this is the setting of its records
-pub record HasSetting (party : Option ℕ) (bytes : List ℕ) (params : Option Params) (setting : Setting) : Type 0 where
-  pub head : head_fault batch_letters 32 party bytes ≡ None
-  pub text : IsLoaded (header_of bytes).text params setting.circuit
-  pub shape : IsShapeOf (header_of bytes) setting.circuit setting.shape
-  pub claims : claims_of bytes ≡ setting.claims
+-- the text of a file
+abbrev pub text_in : Format → (bytes : List ℕ) → List ℕ
+text_in format bytes = take (number_at 20 bytes) (drop (circuit_start format bytes) bytes)
 
--- a file is a batch, and this is the setting of its records
-pub record IsBatch (party : Option ℕ) (bytes : List ℕ) (params : Option Params) (setting : Setting) : Type 0 where
-  pub has : HasSetting party bytes params setting
-  pub no_fault : fault_of party setting.shape bytes ≡ None
+-- the head of a file has no fault, its text is loaded as a circuit, and this is its setting
+pub record HasSetting (format : Format) (bytes : List ℕ) (params : Option Params) (setting : SettingOf format) : Type 0 where
+  pub head : fault_of_head format bytes ≡ None
+  pub text : IsLoaded (text_in format bytes) params (circuit_in format setting)
+  pub fits : FitsSetting format bytes params setting
+
+-- a file is one of this format, and this is its setting
+pub record IsFile (format : Format) (bytes : List ℕ) (params : Option Params) (setting : SettingOf format) : Type 0 where
+  pub has : HasSetting format bytes params setting
+  pub no_fault : layout_fault format setting bytes ≡ None
+
+-- a batch, of which a party may be asked for
+abbrev pub IsBatch : Option ℕ → (bytes : List ℕ) → Option Params → Setting → Type 0
+IsBatch party bytes params setting = IsFile (batches party) bytes params setting
+
+-- a job file
+abbrev pub IsJobFile : (bytes : List ℕ) → JobSetting → Type 0
+IsJobFile bytes setting = IsFile job_files bytes setting.params setting
+
+-- ---- or its first fault
 
 -- behind a head without a fault, the text has this fault
-pub record IsTextFault (party : Option ℕ) (bytes : List ℕ) (fault : CircuitFault) : Type 0 where
-  pub head : head_fault batch_letters 32 party bytes ≡ None
-  pub text : IsCircuitFault (header_of bytes).text fault
+pub record IsTextFault (format : Format) (bytes : List ℕ) (fault : CircuitFault) : Type 0 where
+  pub head : fault_of_head format bytes ≡ None
+  pub text : IsCircuitFault (text_in format bytes) fault
 
 -- behind a text that is loaded as a circuit, the file has this fault
-pub record IsFaultBehind (party : Option ℕ) (bytes : List ℕ) (fault : BatchFault) : Type 0 where
+pub record IsFaultBehind (format : Format) (bytes : List ℕ) (fault : BatchFault) : Type 0 where
   pub params : Option Params
-  pub setting : Setting
-  pub has : HasSetting party bytes params setting
-  pub is : fault_of party setting.shape bytes ≡ Some fault
+  pub setting : SettingOf format
+  pub has : HasSetting format bytes params setting
+  pub is : layout_fault format setting bytes ≡ Some fault
 
--- the first fault of a file, where a party may be asked for: that of its head; or else of its text; or
--- else of what follows the text
-abbrev pub IsFault : Option ℕ → List ℕ → EngineFault → Type 0
-IsFault party bytes (Batch fault) = (head_fault batch_letters 32 party bytes ≡ Some fault) ⊎ IsFaultBehind party bytes fault
-IsFault party bytes (Circuit fault) = IsTextFault party bytes fault
-IsFault party bytes Memory = ⊥
-IsFault party bytes Read = ⊥
-IsFault party bytes Write = ⊥
+-- the first fault of a file: that of its head; or else of its text; or else of what follows the text
+abbrev pub IsFault : Format → (bytes : List ℕ) → EngineFault → Type 0
+IsFault format bytes (Batch fault) = (fault_of_head format bytes ≡ Some fault) ⊎ IsFaultBehind format bytes fault
+IsFault format bytes (Circuit fault) = IsTextFault format bytes fault
+IsFault format bytes Memory = ⊥
+IsFault format bytes Read = ⊥
+IsFault format bytes Write = ⊥
 
--- the most bytes that are asked for in front of the records: 32 where these have a fault, or else up to
--- the end of the old claims
-abbrev pub front_size : Option ℕ → List ℕ → ℕ
-front_size party bytes = stop_of 32 (claims_end bytes) (start_fault batch_letters 32 party bytes)
+-- ---- how much of it is read
+
+-- of a file whose text is a circuit's, no more bytes are taken than its head gives, and one to see the end
+pub record TakesFile (format : Format) (left left' : Option (List ℕ)) (bytes : List ℕ) : Type 0 where
+  pub params : Option Params
+  pub setting : SettingOf format
+  pub has : HasSetting format bytes params setting
+  pub few : ConsumesAtMost (size_with format setting bytes + 1) left left'
+
+-- no more bytes are taken of a file than its head gives, and one to see the end
+abbrev pub TakesFew : Format → Option (List ℕ) → Option (List ℕ) → Type 0
+TakesFew format left left' = ConsumesWithin (front_size format) left left' ⊎ IfSome left (TakesFile format left left')

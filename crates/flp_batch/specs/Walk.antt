@@ -1,43 +1,33 @@
--- What one step of a walk did: which records were read, what was written, and what the judge follows
--- then. `line` is the line of a record behind others; `follows` says which records were judged.
-use Rattle.std.specs.Prelude.{◌≡◌, ℕ, ◌+◌, ◌≤◌, Option, List, [], ◌∷◌, ◌++◌, length, All}
+-- What a walk did behind what was opened, from some records up to all of them: which were read, what was
+-- written, and what the judge follows then. `line` is the line of a record behind others; `follows` says which
+-- records were judged.
+use Rattle.std.specs.Prelude.{◌≡◌, ◌⊎◌, ℕ, ◌+◌, ◌/◌, ◌≤◌, min, Option, Result, Err, List, [], ◌++◌, length, All}
 use Rattle.std.specs.List.{concat}
-use Rattle.std.specs.Io.KnownBytes.{Consumes, Appends, Keeps}
-use Rattle.flp_io.specs.Reads.{ConsumesSome}
+use Rattle.std.specs.Io.KnownBytes.{Consumes, Appends, IsAtEnd}
+use Rattle.flp_io.specs.Block.{Passes}
 use Rattle.flp_io.specs.Writes.{TakesPrefix}
-use Rattle.flp_report.specs.declared.batch.BatchReader.{BatchReader}
+use Rattle.flp_report.specs.declared.shape.Shape.{Shape}
 use Rattle.flp_report.specs.Shape.{bytes_of}
-use Rattle.flp_report.specs.Reader.{IsShaped, place_of, claims_left, reports_left, shape_given, size_of_file}
-use Rattle.flp_batch.specs.Lines.{lines_of}
+use Rattle.flp_batch.specs.declared.fault.EngineFault.{EngineFault}
+use Rattle.flp_batch.specs.declared.fault.EngineFault.TheVariants.{Write}
+use Rattle.flp_batch.specs.Cut.{settled}
+use Rattle.flp_batch.specs.Fault.{IsOfFront, IsOfInput}
+use Rattle.flp_batch.specs.Lines.{Wording, lines_from, lines_of}
 
--- the reader went on by one record
-pub record GoesOn {S : Type 0} (old new : BatchReader S) : Type 0 where
-  pub shaped : IsShaped new
-  pub shape : shape_given new ≡ shape_given old
-  pub size : size_of_file new ≡ size_of_file old
-  pub claims : claims_left new ≡ 0
-  pub left : reports_left new + 1 ≡ reports_left old
-  pub place : place_of new ≡ place_of old + bytes_of (shape_given old)
+-- ---- some records
 
--- one record was read and judged behind those before it, and its line was written
-pub record JudgesOne (size : ℕ) (line : List (List ℕ) → List ℕ → List ℕ) (follows follows' : List (List ℕ) → Type 0) (left left' taken taken' : Option (List ℕ)) : Type 0 where
-  pub given : List ℕ
-  pub size_is : length given ≡ size
-  pub read : Consumes left left' given
-  pub more : (earlier : List (List ℕ)) → follows earlier → follows' (earlier ++ given ∷ [])
-  pub written : (earlier : List (List ℕ)) → follows earlier → Appends taken taken' (line earlier given)
+-- a judge of records of this shape, which has judged none
+pub record IsNew (shape own : Shape) (follows : List (List ℕ) → Type 0) (count : ℕ) : Type 0 where
+  pub shape_is : own ≡ shape
+  pub fresh : follows []
+  pub none : count ≡ 0
 
--- nothing was written
-pub record StopsBefore (left left' taken taken' : Option (List ℕ)) : Type 0 where
-  pub read : ConsumesSome left left'
-  pub kept : Keeps taken taken'
+-- records were judged in their order behind earlier ones, and their lines went to the output, or are held back for it
+pub record JudgesSome (line : List (List ℕ) → List ℕ → List ℕ) (follows : List (List ℕ) → Type 0) (earlier records : List (List ℕ)) (taken : Option (List ℕ)) (held : List ℕ) (taken' : Option (List ℕ)) (held' : List ℕ) : Type 0 where
+  pub follows_are : follows (earlier ++ records)
+  pub passed : Passes taken held (lines_from line earlier records) taken' held'
 
--- one record was read and judged, and a prefix of its line was written
-pub record StopsWithin (size : ℕ) (line : List (List ℕ) → List ℕ → List ℕ) (follows : List (List ℕ) → Type 0) (left left' taken taken' : Option (List ℕ)) : Type 0 where
-  pub given : List ℕ
-  pub size_is : length given ≡ size
-  pub read : Consumes left left' given
-  pub written : (earlier : List (List ℕ)) → follows earlier → TakesPrefix taken taken' (line earlier given)
+-- ---- one segment after the other
 
 -- n records were read and judged in their order, and their lines were written
 pub record Judges (size n : ℕ) (line : List (List ℕ) → List ℕ → List ℕ) (follows : List (List ℕ) → Type 0) (left left' taken taken' : Option (List ℕ)) : Type 0 where
@@ -56,3 +46,45 @@ pub record Stops (size n : ℕ) (line : List (List ℕ) → List ℕ → List �
   pub sizes : All (λ r. length r ≡ size) records
   pub read : Consumes left left' (concat records ++ tail)
   pub written : TakesPrefix taken taken' (lines_of line records)
+
+-- of the records that came whole, exactly the lines of the first were written, among them those of all settled ones
+pub record Settles (shape : Shape) (n : ℕ) (line : List (List ℕ) → List ℕ → List ℕ) (left left' taken taken' : Option (List ℕ)) : Type 0 where
+  pub records : List (List ℕ)
+  pub tail : List ℕ
+  pub number : length records ≤ n
+  pub sizes : All (λ r. length r ≡ bytes_of shape) records
+  pub read : Consumes left left' (concat records ++ tail)
+  pub least : settled shape (min n (length records + length tail / bytes_of shape)) ≤ length records
+  pub written : Appends taken taken' (lines_of line records)
+
+-- where records were not judged to their end: what was written, and behind a fault of the input exactly what
+pub record Breaks (fault : EngineFault) (shape : Shape) (n : ℕ) (line : List (List ℕ) → List ℕ → List ℕ) (left left' taken taken' : Option (List ℕ)) : Type 0 where
+  pub behind : IsOfFront fault → ⊥
+  pub stops : Stops (bytes_of shape) n line left left' taken taken'
+  pub settles : IsOfInput fault → Settles shape n line left left' taken taken'
+
+-- ---- up to the end of the input
+
+-- n records were read, and then the end of the input, and their text was written
+pub record Tells (size n : ℕ) (text : List (List ℕ) → List ℕ) (left left' taken taken' : Option (List ℕ)) : Type 0 where
+  pub records : List (List ℕ)
+  pub number : length records ≡ n
+  pub sizes : All (λ r. length r ≡ size) records
+  pub read : Consumes left left' (concat records)
+  pub ended : IsAtEnd left'
+  pub written : Appends taken taken' (text records)
+
+-- the same, but a prefix of the text was written
+pub record TellsFront (size n : ℕ) (text : List (List ℕ) → List ℕ) (left left' taken taken' : Option (List ℕ)) : Type 0 where
+  pub records : List (List ℕ)
+  pub number : length records ≡ n
+  pub sizes : All (λ r. length r ≡ size) records
+  pub read : Consumes left left' (concat records)
+  pub ended : IsAtEnd left'
+  pub written : TakesPrefix taken taken' (text records)
+
+-- where a walk failed, a prefix of the lines was written, or, after a failed write behind them, of the text
+abbrev pub StopsWalk : {T : Type 0} → Result T EngineFault → (size n : ℕ) → Wording → (left left' taken taken' : Option (List ℕ)) → Type 0
+StopsWalk result size n words left left' taken taken' =
+    Stops size n words.line left left' taken taken'
+    ⊎ ((result ≡ Err Write) × TellsFront size n words.text left left' taken taken')

@@ -36,23 +36,25 @@ impl From<AllocError> for EngineFault {
     }
 }
 
-/// A reader's fault as one of a walk.
-pub(crate) fn from_read(fault: ReadFault) -> EngineFault
-    ensures { result ≡ fault_from fault }
-{
-    match fault {
-        ReadFault::Memory => EngineFault::Memory,
-        ReadFault::Failed => EngineFault::Read,
-        ReadFault::Batch(fault) => EngineFault::Batch(fault),
+impl From<ReadFault> for EngineFault {
+    ghost from_gives = { λ read fault. fault ≡ fault_from read };
+
+    fn from(fault: ReadFault) -> EngineFault {
+        match fault {
+            ReadFault::Memory => EngineFault::Memory,
+            ReadFault::Failed => EngineFault::Read,
+            ReadFault::Batch(fault) => EngineFault::Batch(fault),
+        }
     }
 }
 
-/// A fault of loading the text as one of a walk.
-pub(crate) fn from_load(fault: LoadFault) -> EngineFault
-    ensures { result ≡ fault_of_text fault }
-{
-    match fault {
-        LoadFault::Memory => EngineFault::Memory,
-        LoadFault::Circuit(fault) => EngineFault::Circuit(fault),
+impl From<LoadFault> for EngineFault {
+    ghost from_gives = { λ load fault. fault ≡ fault_of_text load };
+
+    fn from(fault: LoadFault) -> EngineFault {
+        match fault {
+            LoadFault::Memory => EngineFault::Memory,
+            LoadFault::Circuit(fault) => EngineFault::Circuit(fault),
+        }
     }
 }

@@ -1,14 +1,10 @@
 -- The first flaw of a list is one of it, and none comes before it.
 use Rattle.std.proofs.Common.{◌≡◌, ℕ, zero, suc, ◌<◌, ◌≤◌, Bool, true, false, cond, ltb, List, [], ◌∷◌, Option, None, Some, get_or, refl, sym, subst, arith}
 use Rattle.std.specs.List.{All}
-use Rattle.std.proofs.lemmas.Bool.Decides.{nat_tests}
+use Rattle.std.proofs.lemmas.Bool.{ltb-true, ltb-false}
 use Rattle.flp_check.specs.declared.flaw.Flaw.{Flaw}
 use Rattle.flp_check.specs.Flaws.{order_of, earlier_of, first_flaw, IsFirst}
 use Rattle.flp_check.proofs.VerdictLemmas.{no_first_flaw}
-use Rattle.flp_check.proofs.LimitLemmas.{lt_from}
-
-ge_from : (a b : ℕ) → ltb a b ≡ false → b ≤ a
-ge_from a b h = grind (arith, nat_tests)
 
 -- of one flaw, and of one before others
 alone : (x : Flaw) → IsFirst (x ∷ []) x
@@ -44,8 +40,8 @@ some_same : (a b : Flaw) (o : Option Flaw) → o ≡ Some a → o ≡ Some b →
 some_same a b o h k = cc
 
 pick : (t : Bool) (x y m : Flaw) (xs : List Flaw) → ltb (order_of y) (order_of x) ≡ t → cond t (Some y) (Some x) ≡ Some m → IsFirst xs y → IsFirst (x ∷ xs) m
-pick true x y m xs test h first = subst (IsFirst (x ∷ xs)) (some_same y m (Some y) refl h) (later_first x y xs (lt_from (order_of y) (order_of x) test) first)
-pick false x y m xs test h first = subst (IsFirst (x ∷ xs)) (some_same x m (Some x) refl h) (now_first x y xs (ge_from (order_of y) (order_of x) test) first)
+pick true x y m xs test h first = subst (IsFirst (x ∷ xs)) (some_same y m (Some y) refl h) (later_first x y xs (ltb-true (order_of y) (order_of x) test) first)
+pick false x y m xs test h first = subst (IsFirst (x ∷ xs)) (some_same x m (Some x) refl h) (now_first x y xs (ltb-false (order_of y) (order_of x) test) first)
 
 of_rest : (x : Flaw) (xs : List Flaw) (o : Option Flaw) → first_flaw xs ≡ o → ((y : Flaw) → first_flaw xs ≡ Some y → IsFirst xs y) → (m : Flaw) → earlier_of (Some x) o ≡ Some m → IsFirst (x ∷ xs) m
 of_rest x xs None e rest m h = let P : List Flaw → Type 0 = λ ys. IsFirst (x ∷ ys) m in subst P (sym (no_first_flaw xs e)) (subst (IsFirst (x ∷ [])) (some_same x m (Some x) refl h) (alone x))

@@ -6,7 +6,8 @@ use Rattle.flp_syntax.specs.Sorts.{is_shared, has_shared_item}
 use Rattle.flp_syntax.specs.WellFormed.{IndexIsWell, IndexItemsAreWell, IndicesAreWell, TreeIsWell, ItemsAreWell, TreesAreWell, ArgumentIsWell, ArgumentsAreWell, StatementIsWell, StatementsAreWell, DeclarationsAreWell, ProgramIsWell}
 use Rattle.flp_check.specs.declared.flaw.Flaw.{Flaw}
 use Rattle.flp_check.specs.declared.flaw.Rule.{Rule}
-use Rattle.flp_check.specs.Flaws.{Names, flaw_if, earlier_of, first_flaw, index_flaws, index_items_flaws, indices_flaws, range_flaws, tree_flaws, items_flaws, factors_flaws, arg_flaws, args_flaws, stmt_flaws, stmts_flaws, declarations_flaws, text_flaws}
+use Rattle.flp_check.specs.Flaws.{flaw_if, earlier_of, first_flaw, index_flaws, index_items_flaws, indices_flaws, range_flaws, tree_flaws, items_flaws, factors_flaws, arg_flaws, args_flaws, stmt_flaws, stmts_flaws, declarations_flaws, text_flaws}
+use Rattle.flp_syntax.specs.Scope.{Names}
 
 abbrev pub FlawFits : Flaw → Type 0
 FlawFits flaw = flaw.at < 2 ^ 32

@@ -1,13 +1,13 @@
-pub mod Rests
-pub mod Sorting
 pub mod Finding
 pub mod Walking
 pub mod Nodes
 pub mod Meeting
 pub mod Turns
+pub mod Clean
 pub mod FlawsFit
 pub mod LimitLemmas
-pub mod Fitting
+pub mod FitLemmas
 pub mod LinearLemmas
 pub mod VerdictLemmas
 pub mod Firsts
+pub mod Renaming

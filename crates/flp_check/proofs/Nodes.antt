@@ -1,9 +1,9 @@
 -- A node is met before its parts.
-use Rattle.std.proofs.Common.{◌≡◌, ℕ, Bool, true, false, [], ◌∷◌, refl}
-use Rattle.flp_syntax.specs.Tree.{Index, index_number, index_var, index_add, index_mul, IndexItems, index_item_on, Tree, number, var, joint, meas, meas_or_zero, sum, call, add, mul, pow, Statement, check, out, each, Program}
-use Rattle.flp_syntax.specs.Scope.{Scope, index_value, sum_from}
+use Rattle.std.proofs.Common.{[], ◌∷◌}
+use Rattle.flp_syntax.specs.Tree.{Index, index_number, index_var, index_add, index_mul, Tree, number, var, joint, meas, meas_or_zero, sum, call, add, mul, pow, Statement, check, out, each, Program}
+use Rattle.flp_syntax.specs.Scope.{Scope}
 use Rattle.flp_syntax.specs.declared.fault.LangFault.{LangFault}
-use Rattle.flp_check.specs.Events.{visit, moved, index_events, tree_events, stmt_events}
+use Rattle.flp_check.specs.Events.{visit, index_events, tree_events, stmt_events}
 use Rattle.flp_check.specs.Counts.{Counts, Stops}
 use Rattle.flp_check.proofs.Walking.{stops_front}
 
@@ -29,7 +29,3 @@ pub stmt_stops : (p : Program) (s : Scope) (x : Statement) {a : Counts} {fault :
 stmt_stops p s (check at expr) h = stops_front _ h
 stmt_stops p s (out at expr) h = stops_front _ h
 stmt_stops p s (each at name from to inner) h = stops_front _ h
-
-pub sum_from-on : (s : Scope) (front : ℕ) (minus : Bool) (x : Index) (more : IndexItems) → sum_from s front (index_item_on minus x more) ≡ sum_from s (moved minus front (index_value s x)) more
-sum_from-on s front true x more = refl
-sum_from-on s front false x more = refl

@@ -1,26 +1,22 @@
 -- What a body that passed is known to be.
-use Rattle.std.proofs.Common.{◌≡◌, Bool, true, false, cond, List, [], ◌∷◌, ◌++◌, Option, None, Some, Result, Ok, length, refl, subst}
+use Rattle.std.proofs.Common.{◌≡◌, Bool, true, false, cond, List, [], ◌∷◌, Option, None, Some, Result, Ok, refl, subst}
 use Rattle.std.specs.Prelude.{option_map}
-use Rattle.std.specs.List.{flat_map}
 use Rattle.flp_syntax.specs.Tree.{Program}
+use Rattle.flp_syntax.specs.Fits.{BodyFits}
+use Rattle.flp_syntax.specs.Linear.{IsLinear}
 use Rattle.flp_syntax.specs.declared.fault.LangFault.{LangFault}
-use Rattle.flp_syntax.specs.declared.fault.Counted.TheVariants as counted
 use Rattle.flp_check.specs.declared.flaw.Flaw.{Flaw}
-use Rattle.flp_check.specs.Limits.{first, outside, gadget_faults, declared_faults, uncalled, closing_faults}
+use Rattle.flp_check.specs.Limits.{first, declared_faults, closing_faults}
 use Rattle.flp_check.specs.Flaws.{earlier_of, first_flaw, declarations_flaws, stmts_flaws, text_flaws}
 use Rattle.flp_check.specs.Events.{body_events}
-use Rattle.flp_check.specs.Counts.{Counts, walk, go_on}
-use Rattle.flp_check.specs.Verdict.{Totals, unless, flaw_fault, no_counts, totals_of, closed, verdict}
-use Rattle.flp_check.specs.Fits.{IsWithin, BodyFits}
-use Rattle.flp_check.specs.Linear.{BodyIsLinear}
-use Rattle.flp_check.proofs.Walking.{go_on_ok}
-use Rattle.flp_check.proofs.LimitLemmas.{none_first, outside_within, kinds_within, one_each, walk_counted, calls_within}
-use Rattle.flp_check.proofs.Fitting.{walk_sound, stmts_fit}
+use Rattle.flp_check.specs.Counts.{walk, go_on}
+use Rattle.flp_check.specs.Verdict.{Totals, unless, flaw_fault, no_counts, totals_of, closing_verdict, verdict, Passes}
+use Rattle.flp_check.specs.Within.{IsWithin}
+use Rattle.flp_check.proofs.Walking.{go_on_ok, unless_ok}
+use Rattle.flp_check.proofs.Clean.{append-none, walk_clean}
+use Rattle.flp_check.proofs.LimitLemmas.{no_first, is_declared, kinds_within, one_each, walk_counted, is_closed}
+use Rattle.flp_check.proofs.FitLemmas.{stmts_fit}
 use Rattle.flp_check.proofs.LinearLemmas.{stmts_linear}
-
-unless_ok : {A : Type 0} (o : Option LangFault) (r : Result A LangFault) (t : A) → unless o r ≡ Ok t → (o ≡ None) × (r ≡ Ok t)
-unless_ok None r t h = (refl, h)
-unless_ok (Some fault) r t h = cc
 
 unmapped : (o : Option Flaw) → option_map flaw_fault o ≡ None → o ≡ None
 unmapped None h = refl
@@ -41,61 +37,49 @@ no_first_flaw (x ∷ xs) h = absurd (earlier_some x (first_flaw xs) h)
 same_totals : (a b : Totals) (r : Result Totals LangFault) → r ≡ Ok a → r ≡ Ok b → a ≡ b
 same_totals a b r h k = cc
 
--- the passes of a body that passed
-pub record Passes (body : Program) (totals : Totals) : Type 0 where
-  pub declared : first (declared_faults body) ≡ None
-  pub flaws : text_flaws body ≡ []
-  pub counts : Counts
-  pub walked : walk (no_counts body) (body_events body) ≡ Ok counts
-  pub closing : first (closing_faults counts.calls counts.checks counts.outs) ≡ None
-  pub totals_are : totals_of counts ≡ totals
-
 pub passes : (body : Program) (totals : Totals) → verdict body ≡ Ok totals → Passes body totals
 passes body totals h =
-    let declared = unless_ok (first (declared_faults body)) (unless (option_map flaw_fault (first_flaw (text_flaws body))) (go_on (walk (no_counts body) (body_events body)) closed)) totals h in
-    let flaws = unless_ok (option_map flaw_fault (first_flaw (text_flaws body))) (go_on (walk (no_counts body) (body_events body)) closed) totals declared.1 in
-    let walked = go_on_ok (walk (no_counts body) (body_events body)) closed totals flaws.1 in
+    let declared = unless_ok (first (declared_faults body)) (unless (option_map flaw_fault (first_flaw (text_flaws body))) (go_on (walk (no_counts body) (body_events body)) closing_verdict)) totals h in
+    let flaws = unless_ok (option_map flaw_fault (first_flaw (text_flaws body))) (go_on (walk (no_counts body) (body_events body)) closing_verdict) totals declared.1 in
+    let walked = go_on_ok (walk (no_counts body) (body_events body)) closing_verdict totals flaws.1 in
     let closing = unless_ok (first (closing_faults walked.0.calls walked.0.checks walked.0.outs)) (Ok (totals_of walked.0)) totals walked.2 in
     record {
-      declared = declared.0;
+      declared = no_first (declared_faults body) declared.0;
       flaws = no_first_flaw (text_flaws body) (unmapped (first_flaw (text_flaws body)) flaws.0);
       counts = walked.0;
       walked = walked.1;
-      closing = closing.0;
+      closing = no_first (closing_faults walked.0.calls walked.0.checks walked.0.outs) closing.0;
       totals_are = same_totals (totals_of walked.0) totals (Ok (totals_of walked.0)) refl closing.1;
     }
 
-nil_ends : (xs ys : List Flaw) → xs ++ ys ≡ [] → ys ≡ []
-nil_ends [] ys h = h
-nil_ends (x ∷ xs) ys h = cc
+-- no statement is at fault
+pub body_flawless : (body : Program) (totals : Totals) → verdict body ≡ Ok totals → stmts_flaws body.gadgets [] body.stmts ≡ []
+body_flawless body totals h = (append-none (declarations_flaws [] body.gadgets) (stmts_flaws body.gadgets [] body.stmts) (passes body totals h).flaws).1
 
 pub body_fits : (body : Program) (totals : Totals) → verdict body ≡ Ok totals → BodyFits body
 body_fits body totals h =
     let p = passes body totals h in
-    stmts_fit body [] body.stmts (walk_sound (body_events body) (no_counts body) p.counts p.walked) (nil_ends (declarations_flaws [] body.gadgets) (stmts_flaws body.gadgets [] body.stmts) p.flaws)
+    stmts_fit body [] body.stmts (walk_clean (body_events body) (no_counts body) p.counts p.walked) (body_flawless body totals h)
 
-pub body_linear : (body : Program) (totals : Totals) → verdict body ≡ Ok totals → BodyIsLinear body
-body_linear body totals h = stmts_linear body.gadgets [] body.stmts (nil_ends (declarations_flaws [] body.gadgets) (stmts_flaws body.gadgets [] body.stmts) (passes body totals h).flaws)
+pub body_linear : (body : Program) (totals : Totals) → verdict body ≡ Ok totals → IsLinear body
+body_linear body totals h = stmts_linear body.gadgets [] body.stmts (body_flawless body totals h)
 
 pub body_within : (body : Program) (totals : Totals) → verdict body ≡ Ok totals → IsWithin body totals
 body_within body totals h =
     let p = passes body totals h in
-    let meas = none_first (outside counted.Meas 1 65536 body.meas) (outside counted.Joint 0 65536 body.joint ++ (outside counted.Gadgets 0 8 (length body.gadgets) ++ flat_map gadget_faults body.gadgets)) p.declared in
-    let joint = none_first (outside counted.Joint 0 65536 body.joint) (outside counted.Gadgets 0 8 (length body.gadgets) ++ flat_map gadget_faults body.gadgets) meas.1 in
-    let gadgets = none_first (outside counted.Gadgets 0 8 (length body.gadgets)) (flat_map gadget_faults body.gadgets) joint.1 in
-    let called = none_first (uncalled 0 p.counts.calls) (outside counted.Checks 1 65536 p.counts.checks ++ outside counted.Outs 1 65536 p.counts.outs) p.closing in
-    let lines = none_first (outside counted.Checks 1 65536 p.counts.checks) (outside counted.Outs 1 65536 p.counts.outs) called.1 in
-    let counted_ = walk_counted body (body_events body) p.counts p.walked in
+    let declared = is_declared body p.declared in
+    let closed = is_closed p.counts.calls p.counts.checks p.counts.outs p.closing in
+    let few = walk_counted body (body_events body) p.counts p.walked in
     subst (IsWithin body) p.totals_are (record {
-      some_meas = (outside_within counted.Meas 1 65536 body.meas meas.0).0;
-      meas = (outside_within counted.Meas 1 65536 body.meas meas.0).1;
-      joint = (outside_within counted.Joint 0 65536 body.joint joint.0).1;
-      gadgets = (outside_within counted.Gadgets 0 8 (length body.gadgets) gadgets.0).1;
-      kinds = kinds_within body.gadgets gadgets.1;
+      some_meas = declared.meas.0;
+      meas = declared.meas.1;
+      joint = declared.joint.1;
+      gadgets = declared.gadgets.1;
+      kinds = kinds_within body.gadgets declared.kinds;
       one_each = one_each body (body_events body) p.counts (record { is = p.walked });
-      calls = calls_within p.counts.calls called.0 counted_.calls;
-      some_check = (outside_within counted.Checks 1 65536 p.counts.checks lines.0).0;
-      checks = (outside_within counted.Checks 1 65536 p.counts.checks lines.0).1;
-      some_out = (outside_within counted.Outs 1 65536 p.counts.outs lines.1).0;
-      outs = (outside_within counted.Outs 1 65536 p.counts.outs lines.1).1;
+      calls = λ k d lt. (closed.calls_made k d lt, few.calls k d lt);
+      some_check = closed.checks_made.0;
+      checks = closed.checks_made.1;
+      some_out = closed.outs_made.0;
+      outs = closed.outs_made.1;
     })

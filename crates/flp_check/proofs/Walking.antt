@@ -1,11 +1,13 @@
 -- Walks over events that stand behind one another.
-use Rattle.std.proofs.Common.{◌≡◌, ℕ, suc, ◌+◌, ◌-◌, ◌<◌, ◌≤◌, List, [], ◌∷◌, ◌++◌, Result, Ok, Err, IsErr, IsErrAnd, refl, sym, ap, subst, ◌∙◌, arith}
+use Rattle.std.proofs.Common.{◌≡◌, ℕ, ◌+◌, ◌<◌, ◌≤◌, List, [], ◌∷◌, ◌++◌, Option, None, Some, Result, Ok, Err, IsErr, IsErrAnd, refl, sym, ap, subst, ◌∙◌}
 use Rattle.std.specs.List.{flat_map}
-use Rattle.flp_syntax.specs.Scope.{numbers_from}
+use Rattle.flp_syntax.specs.Scope.{turns}
+use Rattle.flp_syntax.proofs.Turns.{turns_none, turns_next}
 use Rattle.flp_syntax.specs.declared.fault.LangFault.{LangFault}
 use Rattle.flp_syntax.specs.declared.fault.LangFault.TheVariants.{Memory}
 use Rattle.flp_check.specs.Events.{Event}
 use Rattle.flp_check.specs.Counts.{Counts, meet, go_on, walk, Reaches, Stops, Walks}
+use Rattle.flp_check.specs.Verdict.{unless}
 
 go_on-go_on : {A B C : Type 0} (r : Result A LangFault) (f : A → Result B LangFault) (g : B → Result C LangFault) → go_on (go_on r f) g ≡ go_on r (λ a. go_on (f a) g)
 go_on-go_on (Ok a) f g = refl
@@ -64,28 +66,26 @@ leads_on {here} {next} {start} {xs} {left} leads reaches = record { is = leads.i
 pub leads_same : {here start : Counts} {left left' all : List Event} → left ≡ left' → Leads here left start all → Leads here left' start all
 leads_same {here} {start} {left} {left'} {all} e leads = record { is = leads.is ∙ ap (walk here) e }
 
--- the turns of a loop, one by one
-pub turns_next : (f : ℕ → List Event) (i to : ℕ) → i < to → flat_map f (numbers_from i (to - i)) ≡ f i ++ flat_map f (numbers_from (i + 1) (to - (i + 1)))
-turns_next f i to h = let e : to - i ≡ suc (to - (i + 1)) = omega arith in let k : suc i ≡ i + 1 = omega arith in rw (e, k) refl
-
-pub turns_end : (f : ℕ → List Event) (i to : ℕ) → to ≤ i → flat_map f (numbers_from i (to - i)) ≡ []
-turns_end f i to h = let e : to - i ≡ 0 = omega arith in rw e refl
-
 -- a turn of a loop, and the end of the turns
-pub leads_turn : (f : ℕ → List Event) (i to : ℕ) {here next start : Counts} {all : List Event} → i < to → Leads here (flat_map f (numbers_from i (to - i))) start all → Reaches here (f i) next → Leads next (flat_map f (numbers_from (i + 1) (to - (i + 1)))) start all
-leads_turn f i to h leads reaches = leads_on (leads_same (turns_next f i to h) leads) reaches
+pub leads_turn : (f : ℕ → List Event) (i to : ℕ) {here next start : Counts} {all : List Event} → i < to → Leads here (flat_map f (turns i to)) start all → Reaches here (f i) next → Leads next (flat_map f (turns (i + 1) to)) start all
+leads_turn f i to h leads reaches = leads_on (leads_same (ap (flat_map f) (turns_next i to h)) leads) reaches
 
-pub leads_turn_stop : (f : ℕ → List Event) (i to : ℕ) {here start : Counts} {all : List Event} {fault : LangFault} → i < to → Leads here (flat_map f (numbers_from i (to - i))) start all → Stops here (f i) fault → Stops start all fault
-leads_turn_stop f i to h leads stops = leads_stop (leads_same (turns_next f i to h) leads) (stops_front _ stops)
+pub leads_turn_stop : (f : ℕ → List Event) (i to : ℕ) {here start : Counts} {all : List Event} {fault : LangFault} → i < to → Leads here (flat_map f (turns i to)) start all → Stops here (f i) fault → Stops start all fault
+leads_turn_stop f i to h leads stops = leads_stop (leads_same (ap (flat_map f) (turns_next i to h)) leads) (stops_front _ stops)
 
-pub leads_turns : (f : ℕ → List Event) (i to : ℕ) {here start : Counts} {all : List Event} → to ≤ i → Leads here (flat_map f (numbers_from i (to - i))) start all → Reaches start all here
-leads_turns f i to h leads = leads_reach (leads_same (turns_end f i to h) leads) (reaches_none _)
+pub leads_turns : (f : ℕ → List Event) (i to : ℕ) {here start : Counts} {all : List Event} → to ≤ i → Leads here (flat_map f (turns i to)) start all → Reaches start all here
+leads_turns f i to h leads = leads_reach (leads_same (ap (flat_map f) (turns_none i to h)) leads) (reaches_none _)
 
--- what holds before a walk and is kept by each event holds after it
+-- no fault came before an answer
+pub unless_ok : {A : Type 0} (o : Option LangFault) (r : Result A LangFault) (a : A) → unless o r ≡ Ok a → (o ≡ None) × (r ≡ Ok a)
+unless_ok None r a h = (refl, h)
+unless_ok (Some fault) r a h = cc
+
 pub go_on_ok : {A B : Type 0} (r : Result A LangFault) (f : A → Result B LangFault) (b : B) → go_on r f ≡ Ok b → (a : A) × (r ≡ Ok a) × (f a ≡ Ok b)
 go_on_ok (Ok a) f b h = (a, refl, h)
 go_on_ok (Err fault) f b h = cc
 
+-- what holds before a walk and is kept by each event holds after it
 pub walk_keeps : (P : Counts → Type 0) → ((a : Counts) (e : Event) (b : Counts) → P a → meet a e ≡ Ok b → P b) → (es : List Event) (a b : Counts) → P a → walk a es ≡ Ok b → P b
 walk_keeps P step [] a b p h = let e : a ≡ b = cc in subst P e p
 walk_keeps P step (x ∷ xs) a b p h = let m = go_on_ok (meet a x) (λ c. walk c xs) b h in walk_keeps P step xs m.0 b (step a x m.0 p m.1) m.2

@@ -1,8 +1,8 @@
 -- What unrolling a body meets, in its order: loops run through their turns, a node stands before its parts, and parts from left to right.
-use Rattle.std.specs.Prelude.{ℕ, zero, suc, ◌+◌, ◌-◌, ◌*◌, Bool, true, false, ◌==◌, nat_le, nat_lt, if◌then◌else◌, List, [], ◌∷◌, ◌++◌, Option, None, Some, sum_by}
+use Rattle.std.specs.Prelude.{ℕ, ◌+◌, ◌*◌, Bool, true, false, ◌==◌, nat_le, nat_lt, if◌then◌else◌, List, [], ◌∷◌, ◌++◌, Option, None, Some}
 use Rattle.std.specs.List.{flat_map}
 use Rattle.flp_syntax.specs.Tree.{Index, index_number, index_var, index_add, index_mul, IndexItems, no_index_items, index_item_on, Indices, no_indices, index_on, Tree, number, var, joint, meas, meas_or_zero, sum, call, add, mul, pow, Items, no_items, item_on, Trees, no_trees, tree_on, Argument, one, each_arg, Arguments, no_args, arg_on, Statement, check, out, each, Statements, no_stmts, stmt_on, Declaration, Program}
-use Rattle.flp_syntax.specs.Scope.{Scope, inside, bound_value, index_value, turns, gadget_number, arity_of}
+use Rattle.flp_syntax.specs.Scope.{Scope, inside, bound_value, next_front, index_value, turns, args_count, gadget_number, arity_at}
 
 pub data Event : Type 0 where
   visit : Event
@@ -11,6 +11,16 @@ pub data Event : Type 0 where
   gadget_call : (gadget : ℕ) → Event
   a_check : Event
   an_out : Event
+
+-- no event is a fault
+abbrev pub IsClean : List Event → Type 0
+IsClean [] = Unit {0}
+IsClean (visit ∷ more) = IsClean more
+IsClean (bad_index at ∷ more) = ⊥
+IsClean (bad_arity at ∷ more) = ⊥
+IsClean (gadget_call gadget ∷ more) = IsClean more
+IsClean (a_check ∷ more) = IsClean more
+IsClean (an_out ∷ more) = IsClean more
 
 -- a value above 4,294,967,295 of an index, or of a part of it
 abbrev pub in_range : ℕ → ℕ → List Event
@@ -23,11 +33,6 @@ not_below at front value = if nat_le value front then [] else bad_index at ∷ [
 -- a place that is not below the number of words
 abbrev pub in_words : ℕ → ℕ → ℕ → List Event
 in_words at value words = if nat_lt value words then [] else bad_index at ∷ []
-
--- the value of an index's sum after an item
-abbrev pub moved : Bool → ℕ → ℕ → ℕ
-moved true front value = front - value
-moved false front value = front + value
 
 abbrev pub step_events : ℕ → Bool → ℕ → ℕ → List Event
 step_events at true front value = not_below at front value
@@ -44,7 +49,7 @@ abbrev mutual
   -- the items of a sum whose front has this value
   pub sum_events : Scope → ℕ → ℕ → IndexItems → List Event
   sum_events scope at front no_index_items = []
-  sum_events scope at front (index_item_on minus index more) = index_events scope index ++ (step_events at minus front (index_value scope index) ++ sum_events scope at (moved minus front (index_value scope index)) more)
+  sum_events scope at front (index_item_on minus index more) = index_events scope index ++ (step_events at minus front (index_value scope index) ++ sum_events scope at (next_front minus front (index_value scope index)) more)
 
   -- the factors of a product whose front has this value
   pub product_events : Scope → ℕ → ℕ → Indices → List Event
@@ -54,22 +59,6 @@ abbrev mutual
 -- the bounds of a loop, once before its turns
 abbrev pub range_events : Scope → Index → Index → List Event
 range_events scope from to = index_events scope from ++ index_events scope to
-
--- the number of arguments, loops unrolled
-abbrev mutual
-  pub arg_count : Scope → Argument → ℕ
-  arg_count scope (one expr) = 1
-  arg_count scope (each_arg at name from to inner) = sum_by (λ value. args_count (inside scope name value) inner) (turns (index_value scope from) (index_value scope to))
-
-  pub args_count : Scope → Arguments → ℕ
-  args_count scope no_args = 0
-  args_count scope (arg_on arg more) = arg_count scope arg + args_count scope more
-
--- how many inputs the gadget of a number has
-abbrev pub arity_at : List Declaration → ℕ → ℕ
-arity_at [] gadget = 0
-arity_at (decl ∷ more) zero = arity_of decl.kind
-arity_at (decl ∷ more) (suc gadget) = arity_at more gadget
 
 -- after the arguments of a call: the gadget's call, where their number is its arity
 abbrev pub call_events : List Declaration → ℕ → Option ℕ → ℕ → List Event

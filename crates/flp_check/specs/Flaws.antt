@@ -1,21 +1,12 @@
 -- Faults of names and sorts, over the whole text, without unrolling its loops.
 use Rattle.std.specs.Prelude.{◌≡◌, ◌≤◌, ℕ, suc, ◌+◌, ◌*◌, Bool, true, false, ◌&&◌, ◌||◌, not, nat_lt, if◌then◌else◌, List, [], ◌∷◌, ◌++◌, Option, None, Some, is_some}
 use Rattle.std.specs.List.{All, IsAmong}
-use Rattle.std.specs.Str.{bytes_eq}
 use Rattle.flp_syntax.specs.Tree.{Index, index_number, index_var, index_add, index_mul, IndexItems, no_index_items, index_item_on, Indices, no_indices, index_on, Tree, number, var, joint, meas, meas_or_zero, sum, call, add, mul, pow, Items, no_items, item_on, Trees, no_trees, tree_on, Argument, one, each_arg, Arguments, no_args, arg_on, Statement, check, out, each, Statements, no_stmts, stmt_on, Declaration, Program, tree_at}
-use Rattle.flp_syntax.specs.Scope.{gadget_number}
+use Rattle.flp_syntax.specs.Scope.{Names, has_name, gadget_number}
 use Rattle.flp_syntax.specs.Sorts.{is_shared, has_shared_item}
 use Rattle.flp_check.specs.declared.flaw.Flaw.{Flaw}
 use Rattle.flp_check.specs.declared.flaw.Rule.{Rule}
 use Rattle.flp_check.specs.declared.flaw.Rule.TheVariants.{Name, Twice, NotLinear}
-
--- the names of the loops round a place, the outermost first
-abbrev pub Names : Type 0
-Names = List (List ℕ)
-
-abbrev pub has_name : Names → List ℕ → Bool
-has_name [] name = false
-has_name (other ∷ more) name = if bytes_eq other name then true else has_name more name
 
 abbrev pub is_gadget : List Declaration → List ℕ → Bool
 is_gadget gadgets name = is_some (gadget_number gadgets name)
@@ -25,17 +16,17 @@ abbrev pub flaw_if : Bool → ℕ → Rule → List Flaw
 flaw_if flawed token rule = if flawed then record { at = token; rule = rule } ∷ [] else []
 
 -- a name that is used and is no loop's
-abbrev pub unbound : Names → ℕ → List ℕ → List Flaw
-unbound names at name = flaw_if (not (has_name names name)) at Name
+abbrev pub unbound_flaws : Names → ℕ → List ℕ → List Flaw
+unbound_flaws names at name = flaw_if (not (has_name names name)) at Name
 
 -- a loop's name, the token after the one that begins the loop, which is a gadget's or that of a loop round it
-abbrev pub taken : List Declaration → Names → ℕ → List ℕ → List Flaw
-taken gadgets names at name = flaw_if (is_gadget gadgets name || has_name names name) (suc at) Twice
+abbrev pub taken_flaws : List Declaration → Names → ℕ → List ℕ → List Flaw
+taken_flaws gadgets names at name = flaw_if (is_gadget gadgets name || has_name names name) (suc at) Twice
 
 abbrev mutual
   pub index_flaws : Names → Index → List Flaw
   index_flaws names (index_number at value) = []
-  index_flaws names (index_var at name) = unbound names at name
+  index_flaws names (index_var at name) = unbound_flaws names at name
   index_flaws names (index_add at items) = index_items_flaws names items
   index_flaws names (index_mul at factors) = indices_flaws names factors
 
@@ -49,13 +40,13 @@ abbrev mutual
 
 -- the name and the bounds of a loop; the bounds stand outside it
 abbrev pub range_flaws : List Declaration → Names → ℕ → List ℕ → Index → Index → List Flaw
-range_flaws gadgets names at name from to = taken gadgets names at name ++ (index_flaws names from ++ index_flaws names to)
+range_flaws gadgets names at name from to = taken_flaws gadgets names at name ++ (index_flaws names from ++ index_flaws names to)
 
 -- the flaws of an expression; `in_out` says whether it stands inside an output
 abbrev mutual
   pub tree_flaws : List Declaration → Names → Bool → Tree → List Flaw
   tree_flaws gadgets names in_out (number at value) = []
-  tree_flaws gadgets names in_out (var at name) = unbound names at name
+  tree_flaws gadgets names in_out (var at name) = unbound_flaws names at name
   tree_flaws gadgets names in_out (joint at index) = flaw_if in_out at NotLinear ++ index_flaws names index
   tree_flaws gadgets names in_out (meas at index) = index_flaws names index
   tree_flaws gadgets names in_out (meas_or_zero at index) = index_flaws names index

@@ -1,5 +1,5 @@
 -- What a body is judged: its calls, checks and outputs, or its first fault.
-use Rattle.std.specs.Prelude.{ℕ, List, length, Option, None, Some, option_map, Result, Ok, Err, replicate}
+use Rattle.std.specs.Prelude.{◌≡◌, ℕ, List, [], length, Option, None, Some, option_map, Result, Ok, Err, replicate}
 use Rattle.flp_syntax.specs.declared.fault.LangFault.{LangFault}
 use Rattle.flp_syntax.specs.declared.fault.LangFault.TheVariants as fault
 use Rattle.flp_syntax.specs.Tree.{Program}
@@ -39,9 +39,18 @@ abbrev pub totals_of : Counts → Totals
 totals_of counts = record { calls = counts.calls; checks = counts.checks; outs = counts.outs }
 
 -- what was counted, if all that must be there is there
-abbrev pub closed : Counts → Result Totals LangFault
-closed counts = unless (first (closing_faults counts.calls counts.checks counts.outs)) (Ok (totals_of counts))
+abbrev pub closing_verdict : Counts → Result Totals LangFault
+closing_verdict counts = unless (first (closing_faults counts.calls counts.checks counts.outs)) (Ok (totals_of counts))
 
 -- the limits of what is declared, then names and sorts, then what unrolling meets, then what is missing at its end
 abbrev pub verdict : Program → Result Totals LangFault
-verdict body = unless (first (declared_faults body)) (unless (option_map flaw_fault (first_flaw (text_flaws body))) (go_on (walk (no_counts body) (body_events body)) closed))
+verdict body = unless (first (declared_faults body)) (unless (option_map flaw_fault (first_flaw (text_flaws body))) (go_on (walk (no_counts body) (body_events body)) closing_verdict))
+
+-- the passes of a body that passes: none finds a fault, and what was counted is what was met
+pub record Passes (body : Program) (totals : Totals) : Type 0 where
+  pub declared : declared_faults body ≡ []
+  pub flaws : text_flaws body ≡ []
+  pub counts : Counts
+  pub walked : walk (no_counts body) (body_events body) ≡ Ok counts
+  pub closing : closing_faults counts.calls counts.checks counts.outs ≡ []
+  pub totals_are : totals_of counts ≡ totals

@@ -3,13 +3,15 @@ ghost use Rattle.std.specs.Prelude.{◌≡◌, ◌*◌, map, IfOk};
 ghost use Rattle.flp_syntax.specs.Tree as tree;
 ghost use Rattle.flp_syntax.specs.Scope.{index_value, sum_from, product_from};
 ghost use Rattle.flp_syntax.specs.View.{index_of, index_item_of};
-ghost use Rattle.flp_check.specs.Events.{in_range, step_events, moved, in_words, index_events, sum_events, product_events, range_events};
+ghost use Rattle.flp_check.specs.Events.{in_range, step_events, in_words, index_events, sum_events, product_events, range_events};
+ghost use Rattle.flp_syntax.specs.Scope.{next_front};
 ghost use Rattle.flp_check.specs.Counts.{Counts, Walks};
-ghost use Rattle.flp_check.specs.Held.{scope_of, counts_of};
+ghost use Rattle.flp_check.specs.Held.{counts_of};
+ghost use Rattle.flp_syntax.specs.View.{scope_of};
 
 use crate::counter::Counter;
-use crate::scope::{Bound, Loop, bound_value};
-use flp_syntax::{Idx, IdxItem, LangFault};
+use crate::scope::Loop;
+use flp_syntax::{Bound, Idx, IdxItem, LangFault, bound_value};
 
 /// Refuses a value of an index, or of a part of it, above 4,294,967,295.
 fn in_range(at: u32, value: u64) -> Result<u32, LangFault>
@@ -23,9 +25,9 @@ fn in_range(at: u32, value: u64) -> Result<u32, LangFault>
 }
 
 /// The value of an index's sum after an item.
-fn moved(at: u32, minus: bool, front: u32, value: u32) -> Result<u32, LangFault>
+fn next_front(at: u32, minus: bool, front: u32, value: u32) -> Result<u32, LangFault>
     ensures walked { (counts : Counts) → Walks counts (step_events at minus front value) result counts }
-    ensures value { IfOk result (λ given. given ≡ moved minus front value) }
+    ensures value { IfOk result (λ given. given ≡ next_front minus front value) }
 {
     if !minus {
         return in_range(at, front as u64 + value as u64);
@@ -79,7 +81,7 @@ impl Counter {
         let mut front = 0;
         for item in items {
             let value = self.index(scope, &item.idx)?;
-            let next = moved(at, item.minus, front, value)?;
+            let next = next_front(at, item.minus, front, value)?;
             front = next;
         }
         Ok(front)

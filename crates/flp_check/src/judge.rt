@@ -1,9 +1,10 @@
 //! All passes, one after the other.
-ghost use Rattle.std.specs.Prelude.{◌≡◌, ◌≢◌, ◌<◌, ◌^◌, Ok, Err, IfOk, IfErr, MatchResult};
-ghost use Rattle.flp_syntax.specs.View.{program_of};
+ghost use Rattle.std.specs.Prelude.{◌≡◌, ◌≢◌, ◌<◌, ◌^◌, [], map, Ok, Err, IfOk, IfErr, MatchResult};
+ghost use Rattle.flp_syntax.specs.View.{program_of, statement_of};
+ghost use Rattle.flp_syntax.specs.Tree.{statements};
 ghost use Rattle.flp_syntax.specs.WellFormed.{ProgramIsWell};
 ghost use Rattle.flp_syntax.specs.declared.fault.LangFault.TheVariants.{Memory};
-ghost use Rattle.flp_check.specs.Events.{body_events};
+ghost use Rattle.flp_check.specs.Events.{body_events, stmts_events};
 ghost use Rattle.flp_check.specs.Counts.{Reaches, Stops};
 ghost use Rattle.flp_check.specs.Held.{counts_of};
 ghost use Rattle.flp_check.specs.Verdict.{verdict, flaw_fault, no_counts};
@@ -15,7 +16,8 @@ use crate::passed::Checked;
 use crate::text::first_flaw;
 use crate::unroll::Unroller;
 use flp_list::List;
-use flp_syntax::{Body, LangFault};
+use flp_rename::renamed;
+use flp_syntax::{Body, LangFault, Stmt};
 use std::alloc::Global;
 
 /// A flaw as a fault.
@@ -31,9 +33,9 @@ fn fault_of(flaw: Flaw) -> LangFault
     }
 }
 
-/// What a body meets, loops unrolled.
-fn unrolled(alloc: Global, body: &Body) -> Result<Counter, LangFault>
-    ensures { MatchResult result (λ counter. Reaches (no_counts (program_of body.now)) (body_events (program_of body.now)) (counts_of counter)) (λ fault. Stops (no_counts (program_of body.now)) (body_events (program_of body.now)) fault) }
+/// What statements meet, loops unrolled.
+fn walked(alloc: Global, body: &Body, stmts: &[Stmt]) -> Result<Counter, LangFault>
+    ensures { MatchResult result (λ counter. Reaches (no_counts (program_of body.now)) (stmts_events (program_of body.now) [] (statements (map statement_of stmts.now))) (counts_of counter)) (λ fault. Stops (no_counts (program_of body.now)) (stmts_events (program_of body.now) [] (statements (map statement_of stmts.now))) fault) }
 {
     let mut counter = Counter {
         visits: 0,
@@ -42,8 +44,16 @@ fn unrolled(alloc: Global, body: &Body) -> Result<Counter, LangFault>
         outs: 0,
     };
     let unroller = Unroller { alloc, body };
-    unroller.stmts(&[], body.stmts.as_slice(), &mut counter)?;
+    unroller.stmts(&[], stmts, &mut counter)?;
     Ok(counter)
+}
+
+/// What a body meets, loops unrolled: that of a copy in which each loop is named by its depth.
+fn unrolled(alloc: Global, body: &Body) -> Result<Counter, LangFault>
+    ensures { MatchResult result (λ counter. Reaches (no_counts (program_of body.now)) (body_events (program_of body.now)) (counts_of counter)) (λ fault. Stops (no_counts (program_of body.now)) (body_events (program_of body.now)) fault) }
+{
+    let copy = renamed(alloc, body.stmts.as_slice())?;
+    walked(alloc, body, copy.as_slice())
 }
 
 /// Judges a body: its calls, checks and outputs, or its first fault.

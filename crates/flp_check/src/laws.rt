@@ -1,45 +1,34 @@
-//! What is known of a body that passed, for the layers above.
-ghost use Rattle.std.specs.Prelude.{◌≡◌, ◌≤◌, List, [], Some, length};
+//! What is known of a body that passed, and of the order of faults, for the layers above.
+ghost use Rattle.std.specs.Prelude.{◌≡◌, ◌≤◌, List, Ok, Some};
 ghost use Rattle.flp_syntax.specs.Tree.{Program};
-ghost use Rattle.flp_syntax.specs.View.{program_of};
+ghost use Rattle.flp_syntax.specs.Fits.{BodyFits};
+ghost use Rattle.flp_syntax.specs.Linear.{IsLinear};
 ghost use Rattle.flp_check.specs.Events.{Event};
 ghost use Rattle.flp_check.specs.Counts.{Counts, Reaches};
-ghost use Rattle.flp_check.specs.Verdict.{no_counts};
+ghost use Rattle.flp_check.specs.Flaws.{first_flaw, IsFirst};
+ghost use Rattle.flp_check.specs.Verdict.{Totals, no_counts, verdict, Passes};
+ghost use Rattle.flp_check.specs.Within.{IsWithin};
 ghost use Rattle.flp_check.specs.declared.flaw.Flaw.{Flaw};
-ghost use Rattle.flp_check.specs.Flaws.{first_flaw, text_flaws, IsFirst};
-ghost use Rattle.flp_check.specs.Fits.{IsWithin, BodyFits};
-ghost use Rattle.flp_check.specs.Linear.{BodyIsLinear};
 
-use crate::passed::Checked;
+/// No pass finds a fault in a body that passed.
+pub fn passes()
+    ensures { (body : Program) (totals : Totals) → verdict body ≡ Ok totals → Passes body totals }
+{}
 
-/// What is declared and what was counted is within its limits.
-pub fn within_limits(checked: &Checked)
-    ensures within { IsWithin (program_of checked.now.body) (record { calls = checked.now.calls; checks = checked.now.checks; outs = checked.now.outs }) }
-    ensures some_gadget { 1 ≤ length checked.now.body.gadgets }
-{
-    let _body = &checked.body;
-}
+/// What it declares and what was counted of it is within the limits.
+pub fn within_limits()
+    ensures { (body : Program) (totals : Totals) → verdict body ≡ Ok totals → IsWithin body totals }
+{}
 
 /// At each turn each name is bound, each index in range, and each call has its gadget's arity.
-pub fn fits(checked: &Checked)
-    ensures { BodyFits (program_of checked.now.body) }
-{
-    let _body = &checked.body;
-}
-
-/// No name and no sort is at fault.
-pub fn flawless(checked: &Checked)
-    ensures { text_flaws (program_of checked.now.body) ≡ [] }
-{
-    let _body = &checked.body;
-}
+pub fn fits()
+    ensures { (body : Program) (totals : Totals) → verdict body ≡ Ok totals → BodyFits body }
+{}
 
 /// At most one factor of a product is shared, no base of a power is, and outputs are linear in the encoding.
-pub fn linear(checked: &Checked)
-    ensures { BodyIsLinear (program_of checked.now.body) }
-{
-    let _body = &checked.body;
-}
+pub fn linear()
+    ensures { (body : Program) (totals : Totals) → verdict body ≡ Ok totals → IsLinear body }
+{}
 
 /// The first flaw of a list is one of it, and none comes before it: by token, and on one token by rule.
 pub fn first_flaw_is_first()

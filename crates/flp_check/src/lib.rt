@@ -4,8 +4,8 @@
 //! of the body, `verdict` of `specs/Verdict.antt`: the first fault in the order of its passes, or what was counted.
 //! `specs/Limits.antt` has the limits of what is declared and of what must be there at the end, `specs/Flaws.antt` the faults of
 //! names and sorts over the whole text as a list, of which the first is answered, `specs/Events.antt` what unrolling the loops
-//! meets, in its order, and `specs/Counts.antt` what is counted of it and where it stops. [`laws`] says what the layers above
-//! may rest on (`specs/Fits.antt`).
+//! meets, in its order, and `specs/Counts.antt` what is counted of it and where it stops. [`laws`] says what is known of a body
+//! that passed: it is within the limits (`specs/Within.antt`), nothing in it is out of range, and it is linear.
 //!
 //! No definition speaks of the program's types: they are over the plain data of `flp_syntax`. The code goes through the text
 //! twice: once without unrolling, keeping the first flaw so far, and once through all turns of the loops, with counters.
@@ -19,7 +19,6 @@ pub mod laws;
 mod limits;
 mod passed;
 mod scope;
-mod shared;
 mod text;
 mod text_expr;
 mod text_stmt;

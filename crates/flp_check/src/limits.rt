@@ -1,8 +1,8 @@
 //! The limits on what a body declares, and on what must be there at the end of its unrolling.
 ghost use Rattle.std.specs.Prelude.{◌≡◌, ◌<◌, ◌^◌, [], ◌∷◌, None, Some, length, map, MatchResult};
-ghost use Rattle.flp_syntax.specs.Scope.{arity_of, degree_of};
+ghost use Rattle.flp_syntax.specs.Scope.{declared_arity, declared_degree};
 ghost use Rattle.flp_syntax.specs.View.{kind_of, declaration_of, program_of};
-ghost use Rattle.flp_check.specs.Limits.{first, outside, named_count, gadget_faults, declared_faults, closing_faults, uncalled};
+ghost use Rattle.flp_check.specs.Limits.{first, outside, named_count, gadget_faults, declared_faults, closing_faults, uncalled_faults};
 
 use flp_list::List;
 use flp_syntax::{Body, Counted, Decl, KindText, LangFault};
@@ -19,7 +19,7 @@ const MAX_DEGREE: u64 = 8;
 /// How many inputs a gadget has; 2^64 - 1 where there are more.
 #[tactic(auto, using(flp_syntax::specs::View::view_equations))]
 pub fn arity(kind: &KindText) -> u64
-    ensures { result ≡ named_count (arity_of (kind_of kind.now)) }
+    ensures { result ≡ named_count (declared_arity (kind_of kind.now)) }
 {
     match kind {
         KindText::Mul => 2,
@@ -31,7 +31,7 @@ pub fn arity(kind: &KindText) -> u64
 /// The degree of a gadget; a polynomial's is the number of its coefficients less one.
 #[tactic(auto, using(flp_syntax::specs::View::view_equations))]
 fn degree(kind: &KindText) -> u64
-    ensures { result ≡ named_count (degree_of (kind_of kind.now)) }
+    ensures { result ≡ named_count (declared_degree (kind_of kind.now)) }
 {
     match kind {
         KindText::Mul => 2,
@@ -87,7 +87,7 @@ pub fn closing_limits(calls: &[u32], checks: u32, outs: u32) -> Result<(), LangF
 /// Refuses calls of gadgets where one is not called, by the first of them.
 fn all_called(calls: &[u32]) -> Result<(), LangFault>
     requires { length calls.now < 2 ^ 32 }
-    ensures { MatchResult result (λ _. uncalled 0 calls.now ≡ []) (λ fault. first (uncalled 0 calls.now) ≡ Some fault) }
+    ensures { MatchResult result (λ _. uncalled_faults 0 calls.now ≡ []) (λ fault. first (uncalled_faults 0 calls.now) ≡ Some fault) }
 {
     for (gadget, calls) in calls.iter().enumerate() {
         if *calls == 0 {

@@ -2,14 +2,14 @@
 ghost use Rattle.std.specs.Prelude.{◌≡◌, [], map, not, IfOk};
 ghost use Rattle.flp_syntax.specs.Tree as tree;
 ghost use Rattle.flp_syntax.specs.View.{index_of, index_item_of, declaration_of, program_of};
-ghost use Rattle.flp_check.specs.Held.{names_of};
-ghost use Rattle.flp_check.specs.Flaws.{first_flaw, flaw_if, unbound, taken, range_flaws, index_flaws, index_items_flaws, indices_flaws, declarations_flaws, text_flaws, is_gadget, Finds};
+ghost use Rattle.flp_syntax.specs.View.{names_of};
+ghost use Rattle.flp_check.specs.Flaws.{first_flaw, flaw_if, unbound_flaws, taken_flaws, range_flaws, index_flaws, index_items_flaws, indices_flaws, declarations_flaws, text_flaws, is_gadget, Finds};
 ghost use Rattle.flp_check.specs.declared.flaw.Rule.TheVariants.{Name};
 
 use crate::flaw::{Flaw, Found, Rule};
-use crate::scope::{Loop, gadget_number, has_name};
+use crate::scope::{Loop, has_name};
 use flp_list::Bytes;
-use flp_syntax::{Body, Decl, Idx, IdxItem};
+use flp_syntax::{Body, Decl, Idx, IdxItem, gadget_number};
 use std::alloc::{AllocError, Global};
 
 /// The names of the loops round a place, and whether it stands inside an output.
@@ -27,16 +27,16 @@ pub struct Search<'a> {
 }
 
 impl Search<'_> {
-    /// A name that is used and is no loop's.
-    pub fn used(&self, names: &[&[u8]], at: u32, name: &Bytes, found: &mut Found)
-        ensures { Finds found.old.first (unbound (names_of names.now) at name.now) found.new.first }
+    /// Notes a name that is used and is no loop's.
+    pub fn note_unbound(&self, names: &[&[u8]], at: u32, name: &Bytes, found: &mut Found)
+        ensures { Finds found.old.first (unbound_flaws (names_of names.now) at name.now) found.new.first }
     {
         found.note(!has_name(names, name.as_slice()), at, Rule::Name);
     }
 
-    /// A loop's name that is taken.
-    fn named(&self, names: &[&[u8]], at: u32, name: &Bytes, found: &mut Found)
-        ensures { Finds found.old.first (taken (map declaration_of self.now.gadgets.now) (names_of names.now) at name.now) found.new.first }
+    /// Notes a loop's name that is taken.
+    fn note_taken(&self, names: &[&[u8]], at: u32, name: &Bytes, found: &mut Found)
+        ensures { Finds found.old.first (taken_flaws (map declaration_of self.now.gadgets.now) (names_of names.now) at name.now) found.new.first }
     {
         let gadget = gadget_number(self.gadgets, name.as_slice()).is_some();
         let around = has_name(names, name.as_slice());
@@ -50,7 +50,7 @@ impl Search<'_> {
     {
         match idx {
             Idx::Number { .. } => {}
-            Idx::Var { at, name } => self.used(names, *at, name, found),
+            Idx::Var { at, name } => self.note_unbound(names, *at, name, found),
             Idx::Add { items, .. } => self.index_items(names, items.as_slice(), found),
             Idx::Mul { factors, .. } => self.index_factors(names, factors.as_slice(), found),
         }
@@ -80,13 +80,13 @@ impl Search<'_> {
     pub fn range(&self, names: &[&[u8]], ahead: Loop, found: &mut Found)
         ensures { Finds found.old.first (range_flaws (map declaration_of self.now.gadgets.now) (names_of names.now) ahead.entry.at ahead.entry.name.now (index_of ahead.entry.from.now) (index_of ahead.entry.to.now)) found.new.first }
     {
-        self.named(names, ahead.at, ahead.name, found);
+        self.note_taken(names, ahead.at, ahead.name, found);
         self.index(names, ahead.from, found);
         self.index(names, ahead.to, found);
     }
 
-    /// A called name that is no gadget's.
-    pub fn called(&self, at: u32, name: &Bytes, found: &mut Found)
+    /// Notes a called name that is no gadget's.
+    pub fn note_unknown(&self, at: u32, name: &Bytes, found: &mut Found)
         ensures { Finds found.old.first (flaw_if (not (is_gadget (map declaration_of self.now.gadgets.now) name.now)) at Name) found.new.first }
     {
         let gadget = gadget_number(self.gadgets, name.as_slice());

@@ -1,38 +1,17 @@
 //! Names and sorts of expressions.
 ghost use Rattle.std.specs.Prelude.{◌≡◌, ◌&&◌, ◌||◌, false, map, not, IfOk};
 ghost use Rattle.flp_syntax.specs.Tree as tree;
-ghost use Rattle.flp_syntax.specs.Tree.{tree_at};
 ghost use Rattle.flp_syntax.specs.Sorts.{is_shared, has_shared_item};
 ghost use Rattle.flp_syntax.specs.View.{index_of, tree_of, item_of, arg_of, declaration_of};
-ghost use Rattle.flp_check.specs.Held.{names_of};
+ghost use Rattle.flp_syntax.specs.View.{names_of};
 ghost use Rattle.flp_check.specs.Flaws.{tree_flaws, items_flaws, factors_flaws, arg_flaws, args_flaws, Finds};
 
 use crate::flaw::{Found, Rule};
 use crate::scope::{Loop, names_inside};
-use crate::shared::{has_shared_item, is_shared};
 use crate::text::{Place, Search};
 use flp_list::Bytes;
-use flp_syntax::{Arg, Expr, Idx, Item};
+use flp_syntax::{Arg, Expr, Idx, Item, has_shared_item, is_shared, tree_at};
 use std::alloc::AllocError;
-
-/// The number of the token that begins an expression.
-#[tactic(auto, using(flp_syntax::specs::View::view_equations))]
-pub fn tree_at(expr: &Expr) -> u32
-    ensures { result ≡ tree_at (tree_of expr.now) }
-{
-    match expr {
-        Expr::Number { at, .. } => *at,
-        Expr::Var { at, .. } => *at,
-        Expr::Joint { at, .. } => *at,
-        Expr::Meas { at, .. } => *at,
-        Expr::MeasOrZero { at, .. } => *at,
-        Expr::Sum { at, .. } => *at,
-        Expr::Call { at, .. } => *at,
-        Expr::Add { at, .. } => *at,
-        Expr::Mul { at, .. } => *at,
-        Expr::Pow { at, .. } => *at,
-    }
-}
 
 /// Whether public items of a sum are flaws: inside an output, beside a shared one.
 fn is_mixed(in_out: bool, items: &[Item]) -> bool
@@ -76,7 +55,7 @@ impl Search<'_> {
         match expr {
             Expr::Number { .. } => Ok(()),
             Expr::Var { at, name } => {
-                self.used(place.names, *at, name, found);
+                self.note_unbound(place.names, *at, name, found);
                 Ok(())
             }
             Expr::Joint { at, index } => {
@@ -132,7 +111,7 @@ impl Search<'_> {
     ) -> Result<(), AllocError>
         ensures { IfOk result (λ _. Finds found.old.first (tree_flaws (map declaration_of self.now.gadgets.now) (names_of place.entry.names.now) place.entry.in_out (tree.call at name.now (tree.arguments (map arg_of args.entry.now)))) found.new.first) }
     {
-        self.called(at, name, found);
+        self.note_unknown(at, name, found);
         found.note(place.in_out, at, Rule::NotLinear);
         self.args(place, args, found)?;
         Ok(())

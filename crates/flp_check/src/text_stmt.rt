@@ -2,15 +2,13 @@
 ghost use Rattle.std.specs.Prelude.{map, IfOk};
 ghost use Rattle.flp_syntax.specs.Tree as tree;
 ghost use Rattle.flp_syntax.specs.View.{index_of, statement_of, declaration_of};
-ghost use Rattle.flp_check.specs.Held.{names_of};
+ghost use Rattle.flp_syntax.specs.View.{names_of};
 ghost use Rattle.flp_check.specs.Flaws.{stmt_flaws, stmts_flaws, Finds};
 
 use crate::flaw::{Found, Rule};
 use crate::scope::{Loop, names_inside};
-use crate::shared::is_shared;
 use crate::text::{Place, Search};
-use crate::text_expr::tree_at;
-use flp_syntax::Stmt;
+use flp_syntax::{Stmt, is_shared, tree_at};
 use std::alloc::AllocError;
 
 impl Search<'_> {

@@ -5,16 +5,18 @@ ghost use Rattle.flp_syntax.specs.Tree as tree;
 ghost use Rattle.flp_syntax.specs.Scope.{index_value, inside, turns, gadget_number};
 ghost use Rattle.flp_syntax.specs.View.{index_of, tree_of, item_of, arg_of, declaration_of, program_of};
 ghost use Rattle.flp_check.specs.Limits.{named_count};
-ghost use Rattle.flp_check.specs.Events.{index_events, range_events, args_count, arg_count, arity_at, call_events, tree_events, items_events, factors_events, arg_events, args_events};
+ghost use Rattle.flp_check.specs.Events.{index_events, range_events, call_events, tree_events, items_events, factors_events, arg_events, args_events};
+ghost use Rattle.flp_syntax.specs.Scope.{args_count, arg_count, arity_at};
 ghost use Rattle.flp_check.specs.Counts.{Walks};
-ghost use Rattle.flp_check.specs.Held.{scope_of, counts_of};
+ghost use Rattle.flp_check.specs.Held.{counts_of};
+ghost use Rattle.flp_syntax.specs.View.{scope_of};
 
 use crate::counter::Counter;
 use crate::index::in_words;
 use crate::limits::arity;
-use crate::scope::{Bound, Loop, gadget_number};
+use crate::scope::Loop;
 use flp_list::Bytes;
-use flp_syntax::{Arg, Body, Decl, Expr, Idx, Item, LangFault};
+use flp_syntax::{Arg, Body, Bound, Decl, Expr, Idx, Item, LangFault, gadget_number};
 use std::alloc::Global;
 
 /// What unrolls a body.

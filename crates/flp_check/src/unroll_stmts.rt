@@ -6,13 +6,14 @@ ghost use Rattle.flp_syntax.specs.Scope.{index_value, inside, turns};
 ghost use Rattle.flp_syntax.specs.View.{index_of, statement_of, program_of};
 ghost use Rattle.flp_check.specs.Events.{range_events, stmt_events, stmts_events};
 ghost use Rattle.flp_check.specs.Counts.{Walks};
-ghost use Rattle.flp_check.specs.Held.{scope_of, counts_of};
+ghost use Rattle.flp_check.specs.Held.{counts_of};
+ghost use Rattle.flp_syntax.specs.View.{scope_of};
 
 use crate::counter::Counter;
-use crate::scope::{Bound, Loop};
+use crate::scope::Loop;
 use crate::unroll::Unroller;
 use flp_list::Bytes;
-use flp_syntax::{LangFault, Stmt};
+use flp_syntax::{Bound, LangFault, Stmt};
 
 impl Unroller<'_> {
     /// Statements.

@@ -3,7 +3,7 @@ use Rattle.std.proofs.Common.{ℕ, zero, suc, ◌+◌, ◌*◌, ◌≡◌, Bool,
 use Rattle.flp_syntax.specs.Tree.{Kind, Tree, Items, item_on, Statement, Statements, no_stmts, stmt_on, Program, Index, check, out, each, trees, items, arguments, statements, mul, pow, meas, add, index_var, each_arg, one, call, psum_kind, mul_kind, poly_kind}
 use Rattle.flp_syntax.specs.Sorts.{is_shared, has_shared_item}
 use Rattle.flp_syntax.specs.Scope.{Scope, inside, turns, numbers_from}
-use Rattle.flp_meaning.specs.Meaning.{Call, Run, plain, changed, in_turn, total, listed, performed, Reading, called, counted, signed, no_results, join_results, one_check, one_out, meaning, items_of, arguments_of, argument_of, statement_of, statements_of}
+use Rattle.flp_meaning.specs.Meaning.{Call, Run, plain, map_run, in_turn, total, concatenation, all_results, Reading, call_run, in_units, value_with_sign, no_results, join_results, one_check, one_out, meaning, items_of, arguments_of, argument_of, statement_of, statements_of}
 use Rattle.flp_meaning.specs.Gadgets.{blank, times, calls_made}
 use Rattle.flp_circuits.specs.Sizes.{quotient_up}
 use Rattle.flp_circuits.specs.Standard.{name_i, name_j, name_c, name_g, num, idx, sum_below, bits_sum, words_sum, shifted, in_row, chunk_args, chunk_call, range_check, gadget_g, bit_coefs, each_out, each_word_out, one_check as one_check_stmt, weight_check, sum_program, chunked_program, sum_vec_statements, histogram_statements, multihot_statements}
@@ -31,7 +31,7 @@ calls_as part m n h e = record { at = λ made. h.at made ∙ ap (λ (k : ℕ). z
 pub calls_none : {A : Type 0} (value : A) → Calls (plain value) 0
 calls_none value = record { at = λ made. refl }
 
-pub calls_changed : {A B : Type 0} (change : A → B) (part : Run A) (n : ℕ) → Calls part n → Calls (changed change part) n
+pub calls_changed : {A B : Type 0} (change : A → B) (part : Run A) (n : ℕ) → Calls part n → Calls (map_run change part) n
 calls_changed change part n h = record { at = h.at }
 
 pub calls_nil : {A B : Type 0} (join : A → B → B) (none : B) → Calls (in_turn join none []) 0
@@ -57,16 +57,16 @@ calls_loop join none part n count turn =
           ap (λ (list : List ℕ). map (λ (call : Call). call.gadget) (in_turn join none (map part list) made).calls) (turns-zero count) ∙ (calls_numbers join none part n turn 0 count).at made;
     }
 
-pub calls_called : (reading : Reading) (args : Run (List ℕ)) (n : ℕ) → Calls args n → Calls (called reading 0 args) (n + 1)
+pub calls_called : (reading : Reading) (args : Run (List ℕ)) (n : ℕ) → Calls args n → Calls (call_run reading 0 args) (n + 1)
 calls_called reading args n h =
     record { at = λ made. map-both (args made).calls _ ∙ ap (λ (xs : List ℕ). xs ++ 0 ∷ []) (h.at made) ∙ replicate-both n 1 }
 
 module _ (kind : Kind) (reading : Reading) where
-  calls_counted : (shared : Bool) (part : Run ℕ) (n : ℕ) → Calls part n → Calls (counted reading shared part) n
+  calls_counted : (shared : Bool) (part : Run ℕ) (n : ℕ) → Calls part n → Calls (in_units reading shared part) n
   calls_counted true part n h = h
   calls_counted false part n h = calls_changed (λ value. reading.unit * value) part n h
 
-  calls_mixed : (mixed shared : Bool) (part : Run ℕ) (n : ℕ) → Calls part n → Calls (cond mixed (counted reading shared part) part) n
+  calls_mixed : (mixed shared : Bool) (part : Run ℕ) (n : ℕ) → Calls part n → Calls (cond mixed (in_units reading shared part) part) n
   calls_mixed true shared part n h = calls_counted shared part n h
   calls_mixed false shared part n h = h
 
@@ -84,8 +84,8 @@ module _ (kind : Kind) (reading : Reading) where
   calls_item : (mixed is_minus : Bool) (expr : Tree) (more : Items) (m n : ℕ) → Calls (meaning (gadget_g kind) reading [] expr) m → Calls (total (items_of (gadget_g kind) reading [] mixed more)) n → Calls (total (items_of (gadget_g kind) reading [] mixed (item_on is_minus expr more))) (m + n)
   calls_item mixed is_minus expr more m n h k =
       let part = meaning (gadget_g kind) reading [] expr in
-      calls_cons (λ (a b : ℕ). a + b) 0 (changed (signed is_minus) (cond mixed (counted reading (is_shared expr) part) part)) (items_of (gadget_g kind) reading [] mixed more) m n
-      (calls_changed (signed is_minus) (cond mixed (counted reading (is_shared expr) part) part) m (calls_mixed mixed (is_shared expr) part m h)) k
+      calls_cons (λ (a b : ℕ). a + b) 0 (map_run (value_with_sign is_minus) (cond mixed (in_units reading (is_shared expr) part) part)) (items_of (gadget_g kind) reading [] mixed more) m n
+      (calls_changed (value_with_sign is_minus) (cond mixed (in_units reading (is_shared expr) part) part) m (calls_mixed mixed (is_shared expr) part m h)) k
 
   pub calls_difference : (at : ℕ) (first second : Tree) → Calls (meaning (gadget_g kind) reading [] first) 0 → Calls (meaning (gadget_g kind) reading [] second) 0 → Calls (meaning (gadget_g kind) reading [] (add at (items ((false, first) ∷ (true, second) ∷ [])))) 0
   calls_difference at first second h k =
@@ -103,19 +103,19 @@ module _ (kind : Kind) (reading : Reading) where
   pub calls_check : (scope : Scope) (at : ℕ) (expr : Tree) (n : ℕ) → Calls (meaning (gadget_g kind) reading scope expr) n → Calls (statement_of (gadget_g kind) reading scope (check at expr)) n
   calls_check scope at expr n h =
       let part = meaning (gadget_g kind) reading scope expr in
-      calls_changed one_check (counted reading (is_shared expr) part) n (calls_counted (is_shared expr) part n h)
+      calls_changed one_check (in_units reading (is_shared expr) part) n (calls_counted (is_shared expr) part n h)
 
   pub calls_out : (scope : Scope) (at : ℕ) (expr : Tree) (n : ℕ) → Calls (meaning (gadget_g kind) reading scope expr) n → Calls (statement_of (gadget_g kind) reading scope (out at expr)) n
   calls_out scope at expr n h = calls_changed one_out (meaning (gadget_g kind) reading scope expr) n h
 
-  pub calls_stmt : (scope : Scope) (stmt : Statement) (more : Statements) (m n : ℕ) → Calls (statement_of (gadget_g kind) reading scope stmt) m → Calls (performed (statements_of (gadget_g kind) reading scope more)) n → Calls (performed (statements_of (gadget_g kind) reading scope (stmt_on stmt more))) (m + n)
+  pub calls_stmt : (scope : Scope) (stmt : Statement) (more : Statements) (m n : ℕ) → Calls (statement_of (gadget_g kind) reading scope stmt) m → Calls (all_results (statements_of (gadget_g kind) reading scope more)) n → Calls (all_results (statements_of (gadget_g kind) reading scope (stmt_on stmt more))) (m + n)
   calls_stmt scope stmt more m n h k =
       calls_cons join_results no_results (statement_of (gadget_g kind) reading scope stmt) (statements_of (gadget_g kind) reading scope more) m n h k
 
   -- `each name in 0..n ( one statement )`
   pub calls_each : (at k l n : ℕ) (name : List ℕ) (inner : Statement) (m : ℕ) → ((t : ℕ) → Calls (statement_of (gadget_g kind) reading (inside [] name t) inner) m) → Calls (statement_of (gadget_g kind) reading [] (each at name (idx k 0) (idx l n) (statements (inner ∷ [])))) (n * (m + 0))
   calls_each at k l n name inner m turn =
-      calls_loop join_results no_results (λ t. performed (statements_of (gadget_g kind) reading (inside [] name t) (statements (inner ∷ [])))) (m + 0) n (λ t.
+      calls_loop join_results no_results (λ t. all_results (statements_of (gadget_g kind) reading (inside [] name t) (statements (inner ∷ [])))) (m + 0) n (λ t.
       calls_stmt (inside [] name t) inner no_stmts m 0 (turn t) (calls_nil join_results no_results))
 
   -- the range check takes a call for each chunk
@@ -126,23 +126,23 @@ module _ (kind : Kind) (reading : Reading) where
       let there = inside [] name_c c in
       let inner = arguments (chunk_args (at + 7 + 9) chunk) in
       let each_one = each_arg (at + 7 + 2) name_j (idx (at + 7 + 5) 0) (idx (at + 7 + 7) chunk) inner in
-      calls_called reading (listed (arguments_of (gadget_g kind) reading there (arguments (each_one ∷ [])))) (chunk * 0 + 0)
+      calls_called reading (concatenation (arguments_of (gadget_g kind) reading there (arguments (each_one ∷ [])))) (chunk * 0 + 0)
       (calls_cons (λ (a b : List ℕ). a ++ b) [] (argument_of (gadget_g kind) reading there each_one) [] (chunk * 0) 0
-      (calls_loop (λ (a b : List ℕ). a ++ b) [] (λ j. listed (arguments_of (gadget_g kind) reading (inside there name_j j) inner)) 0 chunk (λ j. record { at = λ made. refl }))
+      (calls_loop (λ (a b : List ℕ). a ++ b) [] (λ j. concatenation (arguments_of (gadget_g kind) reading (inside there name_j j) inner)) 0 chunk (λ j. record { at = λ made. refl }))
       (calls_nil (λ (a b : List ℕ). a ++ b) []))))
       (omega arith)
 
 -- ---- whole circuits
 
 -- so many calls of gadget 0 are so many calls that are made
-pub made-from : (body : Program) (n : ℕ) → Calls (performed (statements_of body.gadgets blank [] body.stmts)) n → calls_made body 0 ≡ n
+pub made-from : (body : Program) (n : ℕ) → Calls (all_results (statements_of body.gadgets blank [] body.stmts)) n → calls_made body 0 ≡ n
 made-from body n h = ap (times 0) (h.at 0) ∙ all n
   where
     all : (n : ℕ) → times 0 (zeros n) ≡ n
     all zero = refl
     all (suc n) = ap suc (all n)
 
-calls_sum : (b f : ℕ) → Calls (performed (statements_of (sum_program b f).gadgets blank [] (sum_program b f).stmts)) (2 * b)
+calls_sum : (b f : ℕ) → Calls (all_results (statements_of (sum_program b f).gadgets blank [] (sum_program b f).stmts)) (2 * b)
 calls_sum b f =
     let kind = poly_kind bit_coefs in
     let bit = check 22 (call 23 name_g (arguments (one (meas 25 (index_var 27 name_i)) ∷ []))) in
@@ -150,7 +150,7 @@ calls_sum b f =
     let high = bits_sum 52 name_i b (shifted 65 b name_i) in
     let balance = add 33 (items ((false, num 33 f) ∷ (false, low) ∷ (true, high) ∷ [])) in
     let number = bits_sum 72 name_i b (index_var 85 name_i) in
-    calls_as (performed (statements_of (gadget_g kind) blank [] (sum_program b f).stmts)) (2 * b * (1 + 0) + (0 + (0 + 0))) (2 * b)
+    calls_as (all_results (statements_of (gadget_g kind) blank [] (sum_program b f).stmts)) (2 * b * (1 + 0) + (0 + (0 + 0))) (2 * b)
     (calls_stmt kind blank [] (each 15 name_i (idx 18 0) (idx 20 (2 * b)) (statements (bit ∷ []))) (statements (check 32 balance ∷ out 71 number ∷ [])) (2 * b * (1 + 0)) (0 + (0 + 0))
     (calls_each kind blank 15 18 20 (2 * b) name_i bit 1 (λ t. record { at = λ made. refl }))
     (calls_stmt kind blank [] (check 32 balance) (statements (out 71 number ∷ [])) 0 (0 + 0)
@@ -158,17 +158,17 @@ calls_sum b f =
     (calls_stmt kind blank [] (out 71 number) no_stmts 0 0 (calls_out kind blank [] 71 number 0 (calls_bits kind blank [] 72 b name_i (index_var 85 name_i))) (calls_nil join_results no_results))))
     (omega arith)
 
-calls_chunked : (words chunk : ℕ) (more : List Statement) → Calls (performed (statements_of (gadget_g (psum_kind chunk mul_kind)) blank [] (statements more))) 0 → Calls (performed (statements_of (chunked_program words chunk more).gadgets blank [] (chunked_program words chunk more).stmts)) (quotient_up words chunk)
+calls_chunked : (words chunk : ℕ) (more : List Statement) → Calls (all_results (statements_of (gadget_g (psum_kind chunk mul_kind)) blank [] (statements more))) 0 → Calls (all_results (statements_of (chunked_program words chunk more).gadgets blank [] (chunked_program words chunk more).stmts)) (quotient_up words chunk)
 calls_chunked words chunk more h =
     let kind = psum_kind chunk mul_kind in
     let calls = quotient_up words chunk in
-    calls_as (performed (statements_of (gadget_g kind) blank [] (chunked_program words chunk more).stmts)) (calls + 0) calls
+    calls_as (all_results (statements_of (gadget_g kind) blank [] (chunked_program words chunk more).stmts)) (calls + 0) calls
     (calls_stmt kind blank [] (check 13 (range_check 14 calls chunk)) (statements more) calls 0 (calls_check kind blank [] 13 (range_check 14 calls chunk) calls (calls_range kind blank 14 calls chunk)) h)
     (omega arith)
 
-calls_each_out : (kind : Kind) (at n : ℕ) (inner : Tree) → ((t : ℕ) → Calls (meaning (gadget_g kind) blank (inside [] name_i t) inner) 0) → Calls (performed (statements_of (gadget_g kind) blank [] (statements (each_out at name_i n inner ∷ [])))) 0
+calls_each_out : (kind : Kind) (at n : ℕ) (inner : Tree) → ((t : ℕ) → Calls (meaning (gadget_g kind) blank (inside [] name_i t) inner) 0) → Calls (all_results (statements_of (gadget_g kind) blank [] (statements (each_out at name_i n inner ∷ [])))) 0
 calls_each_out kind at n inner turn =
-    calls_as (performed (statements_of (gadget_g kind) blank [] (statements (each_out at name_i n inner ∷ [])))) (n * (0 + 0) + 0) 0
+    calls_as (all_results (statements_of (gadget_g kind) blank [] (statements (each_out at name_i n inner ∷ [])))) (n * (0 + 0) + 0) 0
     (calls_stmt kind blank [] (each_out at name_i n inner) no_stmts (n * (0 + 0)) 0
     (calls_each kind blank at (at + 3) (at + 5) n name_i (out (at + 7) inner) 0 (λ t. calls_out kind blank (inside [] name_i t) (at + 7) inner 0 (turn t))) (calls_nil join_results no_results))
     (omega arith)
@@ -182,7 +182,7 @@ made_sum_vec words length bits chunk =
     made-from (chunked_program words chunk (sum_vec_statements length bits)) (quotient_up words chunk) (calls_chunked words chunk (sum_vec_statements length bits)
     (calls_each_out kind 66 length (bits_sum 74 name_j bits (in_row 87 name_i bits name_j)) (λ i. calls_bits kind blank (inside [] name_i i) 74 bits name_j (in_row 87 name_i bits name_j))))
 
-calls_word_outs : (kind : Kind) (at n : ℕ) → Calls (performed (statements_of (gadget_g kind) blank [] (statements (each_word_out at n ∷ [])))) 0
+calls_word_outs : (kind : Kind) (at n : ℕ) → Calls (all_results (statements_of (gadget_g kind) blank [] (statements (each_word_out at n ∷ [])))) 0
 calls_word_outs kind at n = calls_each_out kind at n (meas (at + 8) (index_var (at + 10) name_i)) (λ i. record { at = λ made. refl })
 
 pub made_histogram : (words length chunk : ℕ) → calls_made (chunked_program words chunk (histogram_statements length)) 0 ≡ quotient_up words chunk

@@ -3,7 +3,7 @@ use Rattle.std.proofs.Common.{ℕ, ◌+◌, ◌-◌, ◌≡◌, List, [], ◌∷
 use Rattle.std.specs.List.{sum_by, flat_map}
 use Rattle.std.proofs.lemmas.List.Sums.{sum_by-cons}
 use Rattle.flp_syntax.specs.Scope.{turns, numbers_from}
-use Rattle.flp_meaning.specs.Meaning.{Call, Run, plain, changed, in_turn, total, listed, performed, Reading, called, Results, no_results, join_results}
+use Rattle.flp_meaning.specs.Meaning.{Call, Run, plain, map_run, in_turn, total, concatenation, all_results, Reading, call_run, Results, no_results, join_results}
 
 -- the run gives this value, wherever it begins
 pub record Gives {A : Type 0} (part : Run A) (value : A) : Type 0 where
@@ -15,7 +15,7 @@ gives_as part v w h e = record { at = λ made. h.at made ∙ e }
 pub gives_plain : {A : Type 0} (value : A) → Gives (plain value) value
 gives_plain value = record { at = λ made. refl }
 
-pub gives_changed : {A B : Type 0} (change : A → B) (part : Run A) (v : A) → Gives part v → Gives (changed change part) (change v)
+pub gives_changed : {A B : Type 0} (change : A → B) (part : Run A) (v : A) → Gives part v → Gives (map_run change part) (change v)
 gives_changed change part v h = record { at = λ made. ap change (h.at made) }
 
 pub gives_nil : {A B : Type 0} (join : A → B → B) (none : B) → Gives (in_turn join none []) none
@@ -54,9 +54,9 @@ gives_sum part value n each =
     (joined-sum value (turns 0 n) ∙ ap (sum_by value) (turns-zero n))
 
 -- the arguments that a loop from 0 lists
-pub gives_list : (part : ℕ → Run (List ℕ)) (value : ℕ → List ℕ) (n : ℕ) → ((turn : ℕ) → Gives (part turn) (value turn)) → Gives (listed (map part (turns 0 n))) (flat_map value (numbers_from 0 n))
+pub gives_list : (part : ℕ → Run (List ℕ)) (value : ℕ → List ℕ) (n : ℕ) → ((turn : ℕ) → Gives (part turn) (value turn)) → Gives (concatenation (map part (turns 0 n))) (flat_map value (numbers_from 0 n))
 gives_list part value n each =
-    gives_as (listed (map part (turns 0 n))) (joined (λ (a b : List ℕ). a ++ b) [] (map value (turns 0 n))) (flat_map value (numbers_from 0 n)) (gives_turns (λ (a b : List ℕ). a ++ b) [] part value each (turns 0 n))
+    gives_as (concatenation (map part (turns 0 n))) (joined (λ (a b : List ℕ). a ++ b) [] (map value (turns 0 n))) (flat_map value (numbers_from 0 n)) (gives_turns (λ (a b : List ℕ). a ++ b) [] part value each (turns 0 n))
     (joined-lists value (turns 0 n) ∙ ap (flat_map value) (turns-zero n))
 
 abbrev pub checks_only : List ℕ → Results
@@ -74,17 +74,17 @@ joined-outs f [] = refl
 joined-outs f (t ∷ more) = ap (join_results (outs_only (f t ∷ []))) (joined-outs f more)
 
 -- a loop from 0 with one check, or one out, a turn
-pub gives_checks : (part : ℕ → Run Results) (f : ℕ → ℕ) (n : ℕ) → ((turn : ℕ) → Gives (part turn) (checks_only (f turn ∷ []))) → Gives (performed (map part (turns 0 n))) (checks_only (map f (numbers_from 0 n)))
+pub gives_checks : (part : ℕ → Run Results) (f : ℕ → ℕ) (n : ℕ) → ((turn : ℕ) → Gives (part turn) (checks_only (f turn ∷ []))) → Gives (all_results (map part (turns 0 n))) (checks_only (map f (numbers_from 0 n)))
 gives_checks part f n each =
-    gives_as (performed (map part (turns 0 n))) (joined join_results no_results (map (λ t. checks_only (f t ∷ [])) (turns 0 n))) (checks_only (map f (numbers_from 0 n))) (gives_turns join_results no_results part (λ t. checks_only (f t ∷ [])) each (turns 0 n))
+    gives_as (all_results (map part (turns 0 n))) (joined join_results no_results (map (λ t. checks_only (f t ∷ [])) (turns 0 n))) (checks_only (map f (numbers_from 0 n))) (gives_turns join_results no_results part (λ t. checks_only (f t ∷ [])) each (turns 0 n))
     (joined-checks f (turns 0 n) ∙ ap (λ (list : List ℕ). checks_only (map f list)) (turns-zero n))
 
-pub gives_outs : (part : ℕ → Run Results) (f : ℕ → ℕ) (n : ℕ) → ((turn : ℕ) → Gives (part turn) (outs_only (f turn ∷ []))) → Gives (performed (map part (turns 0 n))) (outs_only (map f (numbers_from 0 n)))
+pub gives_outs : (part : ℕ → Run Results) (f : ℕ → ℕ) (n : ℕ) → ((turn : ℕ) → Gives (part turn) (outs_only (f turn ∷ []))) → Gives (all_results (map part (turns 0 n))) (outs_only (map f (numbers_from 0 n)))
 gives_outs part f n each =
-    gives_as (performed (map part (turns 0 n))) (joined join_results no_results (map (λ t. outs_only (f t ∷ [])) (turns 0 n))) (outs_only (map f (numbers_from 0 n))) (gives_turns join_results no_results part (λ t. outs_only (f t ∷ [])) each (turns 0 n))
+    gives_as (all_results (map part (turns 0 n))) (joined join_results no_results (map (λ t. outs_only (f t ∷ [])) (turns 0 n))) (outs_only (map f (numbers_from 0 n))) (gives_turns join_results no_results part (λ t. outs_only (f t ∷ [])) each (turns 0 n))
     (joined-outs f (turns 0 n) ∙ ap (λ (list : List ℕ). outs_only (map f list)) (turns-zero n))
 
 -- a call answers by what its arguments give, where answers do not depend on the number of the call
-pub gives_called : (reading : Reading) (gadget : ℕ) (args : Run (List ℕ)) (inputs : List ℕ) (answer : Call → ℕ) → ((number : ℕ) (call : Call) → reading.answer number call ≡ answer call) → Gives args inputs → Gives (called reading gadget args) (answer (record { gadget = gadget; inputs = inputs }))
+pub gives_called : (reading : Reading) (gadget : ℕ) (args : Run (List ℕ)) (inputs : List ℕ) (answer : Call → ℕ) → ((number : ℕ) (call : Call) → reading.answer number call ≡ answer call) → Gives args inputs → Gives (call_run reading gadget args) (answer (record { gadget = gadget; inputs = inputs }))
 gives_called reading gadget args inputs answer direct h =
     record { at = λ made. direct _ _ ∙ ap (λ (list : List ℕ). answer (record { gadget = gadget; inputs = list })) (h.at made) }

@@ -10,12 +10,12 @@ use Rattle.flp_syntax.specs.declared.fault.LangFault.TheVariants.{Limit}
 use Rattle.flp_syntax.specs.declared.fault.Counted.{Counted}
 use Rattle.flp_syntax.specs.declared.fault.Counted.TheVariants as counted
 use Rattle.flp_syntax.specs.Tree.{Kind, Program, Statement, statements, psum_kind, mul_kind, poly_kind, check, out, each, call, add, items, one, arguments, meas, index_var}
-use Rattle.flp_syntax.specs.Scope.{inside, arity_of, degree_of}
-use Rattle.flp_check.specs.Limits.{first, outside, named_count, gadget_faults, declared_faults, uncalled, closing_faults}
+use Rattle.flp_syntax.specs.Scope.{inside, declared_arity, declared_degree}
+use Rattle.flp_check.specs.Limits.{first, outside, named_count, gadget_faults, declared_faults, uncalled_faults, closing_faults}
 use Rattle.flp_check.specs.Flaws.{text_flaws, first_flaw}
 use Rattle.flp_check.specs.Events.{body_events, stmt_events, stmts_events, tree_events, call_events}
 use Rattle.flp_check.specs.Counts.{Counts, walk, go_on}
-use Rattle.flp_check.specs.Verdict.{unless, flaw_fault, no_counts, totals_of, closed, verdict}
+use Rattle.flp_check.specs.Verdict.{unless, flaw_fault, no_counts, totals_of, closing_verdict, verdict}
 use Rattle.flp_circuits.specs.Bits.{bit_length, headroom}
 use Rattle.flp_circuits.specs.Sizes.{Fits, quotient_up}
 use Rattle.flp_circuits.specs.Standard.{name_i, name_j, name_g, num, idx, bits_sum, words_sum, shifted, in_row, range_check, gadget_g, bit_coefs, each_word_out, each_number_out, one_check, weight_check, sum_program, chunked_program, sum_vec_statements, histogram_statements, multihot_statements, standard_program}
@@ -35,18 +35,18 @@ named-small : (count : ℕ) → count ≤ 1024 → named_count count ≡ count
 named-small count h = min-eq_left {n = count} {m = 18446744073709551615} (omega arith)
 
 -- a body with one gadget within the limits
-declared-none : (words calls : ℕ) (kind : Kind) (stmts : List Statement) → 1 ≤ words → words ≤ 65536 → calls ≤ 65536 → 1 ≤ arity_of kind → arity_of kind ≤ 1024 → 1 ≤ degree_of kind → degree_of kind ≤ 8 → declared_faults (record { meas = words; joint = calls; gadgets = gadget_g kind; stmts = statements stmts }) ≡ []
+declared-none : (words calls : ℕ) (kind : Kind) (stmts : List Statement) → 1 ≤ words → words ≤ 65536 → calls ≤ 65536 → 1 ≤ declared_arity kind → declared_arity kind ≤ 1024 → 1 ≤ declared_degree kind → declared_degree kind ≤ 8 → declared_faults (record { meas = words; joint = calls; gadgets = gadget_g kind; stmts = statements stmts }) ≡ []
 declared-none words calls kind stmts some few joint_few one_input inputs one_degree degree =
-    let arity : outside counted.Arity 1 1024 (named_count (arity_of kind)) ≡ [] = ap (outside counted.Arity 1 1024) (named-small (arity_of kind) inputs) ∙ outside-none counted.Arity 1 1024 (arity_of kind) one_input inputs in
-    let power : outside counted.Degree 1 8 (named_count (degree_of kind)) ≡ [] = ap (outside counted.Degree 1 8) (named-small (degree_of kind) (omega arith)) ∙ outside-none counted.Degree 1 8 (degree_of kind) one_degree degree in
+    let arity : outside counted.Arity 1 1024 (named_count (declared_arity kind)) ≡ [] = ap (outside counted.Arity 1 1024) (named-small (declared_arity kind) inputs) ∙ outside-none counted.Arity 1 1024 (declared_arity kind) one_input inputs in
+    let power : outside counted.Degree 1 8 (named_count (declared_degree kind)) ≡ [] = ap (outside counted.Degree 1 8) (named-small (declared_degree kind) (omega arith)) ∙ outside-none counted.Degree 1 8 (declared_degree kind) one_degree degree in
     let gadget : gadget_faults (record { at = 6; name = name_g; kind = kind }) ++ [] ≡ [] = ap₂ (λ (a b : List LangFault). (a ++ b) ++ []) arity power in
     ap₂ (λ (a b : List LangFault). a ++ (b ++ ([] ++ (gadget_faults (record { at = 6; name = name_g; kind = kind }) ++ [])))) (outside-none counted.Meas 1 65536 words some few) (outside-none counted.Joint 0 65536 calls (omega arith) joint_few) ∙ gadget
 
-uncalled-none : (calls : ℕ) → 1 ≤ calls → uncalled 0 (calls ∷ []) ≡ []
+uncalled-none : (calls : ℕ) → 1 ≤ calls → uncalled_faults 0 (calls ∷ []) ≡ []
 uncalled-none zero h = absurd (omega arith)
 uncalled-none (suc calls) h = refl
 
-closed-ok : (t : Tally) → HasRoom t → 1 ≤ t.calls → 1 ≤ t.checks → 1 ≤ t.outs → closed (counts_at t) ≡ Ok (record { calls = t.calls ∷ []; checks = t.checks; outs = t.outs })
+closed-ok : (t : Tally) → HasRoom t → 1 ≤ t.calls → 1 ≤ t.checks → 1 ≤ t.outs → closing_verdict (counts_at t) ≡ Ok (record { calls = t.calls ∷ []; checks = t.checks; outs = t.outs })
 closed-ok t room called checked listed =
     let ends : closing_faults (t.calls ∷ []) t.checks t.outs ≡ [] =
     ap (λ (list : List LangFault). list ++ (outside counted.Checks 1 65536 t.checks ++ outside counted.Outs 1 65536 t.outs)) (uncalled-none t.calls called)
@@ -59,9 +59,9 @@ passes body t declared flawless start met room called checked listed =
     let room_there : HasRoom (added (nodes 0) t) = record { visits = omega (arith, room.visits); calls = omega (arith, room.calls); checks = omega (arith, room.checks); outs = omega (arith, room.outs) } in
     let walked : walk (no_counts body) (body_events body) ≡ Ok (counts_at t) =
     ap (λ (c : Counts). walk c (body_events body)) start ∙ met.at (nodes 0) room_there ∙ ap (λ (s : Tally). Ok (counts_at s)) from_start in
-    ap (λ list. unless (first list) (unless (option_map flaw_fault (first_flaw (text_flaws body))) (go_on (walk (no_counts body) (body_events body)) closed))) declared
-    ∙ ap (λ list. unless (option_map flaw_fault (first_flaw list)) (go_on (walk (no_counts body) (body_events body)) closed)) flawless
-    ∙ ap (λ r. go_on r closed) walked ∙ closed-ok t room called checked listed
+    ap (λ list. unless (first list) (unless (option_map flaw_fault (first_flaw (text_flaws body))) (go_on (walk (no_counts body) (body_events body)) closing_verdict))) declared
+    ∙ ap (λ list. unless (option_map flaw_fault (first_flaw list)) (go_on (walk (no_counts body) (body_events body)) closing_verdict)) flawless
+    ∙ ap (λ r. go_on r closing_verdict) walked ∙ closed-ok t room called checked listed
 
 -- ---- sums
 

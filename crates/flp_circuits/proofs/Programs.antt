@@ -9,7 +9,7 @@ use Rattle.flp_syntax.specs.declared.syntax.Params.{Params}
 use Rattle.flp_syntax.specs.declared.syntax.Params.TheVariants.{Count, Sum, SumVec, Histogram, Multihot}
 use Rattle.flp_syntax.specs.Tree.{Statement, statements, psum_kind, mul_kind, poly_kind, check, out, add, items, index_var, call, one, arguments, meas, each, no_stmts}
 use Rattle.flp_syntax.specs.Scope.{inside, numbers_from}
-use Rattle.flp_meaning.specs.Meaning.{Results, no_results, join_results, performed, statements_of}
+use Rattle.flp_meaning.specs.Meaning.{Results, no_results, join_results, all_results, statements_of}
 use Rattle.flp_meaning.specs.Circuit.{direct, checks_of, outs_of}
 use Rattle.flp_circuits.specs.Bits.{bit_length, headroom}
 use Rattle.flp_circuits.specs.Sizes.{quotient_up}
@@ -30,7 +30,7 @@ product_bit w =
 pub count_results : List ℕ → Results
 count_results x = record { checks = bit_check x 0 ∷ []; outs = word x 0 % modulus ∷ [] }
 
-pub gives_count : (x joint : List ℕ) → Gives (performed (statements_of count_program.gadgets (direct count_program x joint) [] count_program.stmts)) (count_results x)
+pub gives_count : (x joint : List ℕ) → Gives (all_results (statements_of count_program.gadgets (direct count_program x joint) [] count_program.stmts)) (count_results x)
 unfolding count_results
 gives_count x joint = record { at = λ made. ap (λ (v : ℕ). record { checks = v ∷ []; outs = word x 0 % modulus ∷ [] }) (product_bit (word x 0)) }
 
@@ -56,7 +56,7 @@ sum_results b f x =
       outs = number_at x 0 b % modulus ∷ [];
     }
 
-pub gives_sum_circuit : (b f : ℕ) (x joint : List ℕ) → Gives (performed (statements_of (sum_program b f).gadgets (direct (sum_program b f) x joint) [] (sum_program b f).stmts)) (sum_results b f x)
+pub gives_sum_circuit : (b f : ℕ) (x joint : List ℕ) → Gives (all_results (statements_of (sum_program b f).gadgets (direct (sum_program b f) x joint) [] (sum_program b f).stmts)) (sum_results b f x)
 unfolding sum_results
 gives_sum_circuit b f x joint =
     let kind = poly_kind bit_coefs in
@@ -69,7 +69,7 @@ gives_sum_circuit b f x joint =
     let balance = add 33 (items ((false, num 33 f) ∷ (false, low) ∷ (true, high) ∷ [])) in
     let number = bits_sum 72 name_i b (index_var 85 name_i) in
     gives_stmt kind body x joint [] bits (statements (check 32 balance ∷ out 71 number ∷ [])) (checks_only (map (bit_check x) (numbers_from 0 (2 * b)))) (record { checks = minus (f + number_at x 0 b) (number_at x b b) % modulus ∷ []; outs = number_at x 0 b % modulus ∷ [] })
-    (gives_checks (λ t. performed (statements_of G D (inside [] name_i t) (statements (check 22 (call 23 name_g (arguments (one (meas 25 (index_var 27 name_i)) ∷ []))) ∷ [])))) (bit_check x) (2 * b) (λ t.
+    (gives_checks (λ t. all_results (statements_of G D (inside [] name_i t) (statements (check 22 (call 23 name_g (arguments (one (meas 25 (index_var 27 name_i)) ∷ []))) ∷ [])))) (bit_check x) (2 * b) (λ t.
     record { at = λ made. ap (λ (v : ℕ). checks_only (v ∷ [])) (poly_bit (word x t)) }))
     (gives_stmt kind body x joint [] (check 32 balance) (statements (out 71 number ∷ [])) (checks_only (minus (f + number_at x 0 b) (number_at x b b) % modulus ∷ [])) (outs_only (number_at x 0 b % modulus ∷ []))
     (gives_check kind body x joint [] 32 balance (minus (f + number_at x 0 b) (number_at x b b))
@@ -85,8 +85,8 @@ gives_sum_circuit b f x joint =
 
 -- the range check, and what the further statements give
 pub gives_chunked : (words chunk : ℕ) (more : List Statement) (x joint : List ℕ) (rest : Results)
-    → Gives (performed (statements_of (gadget_g (psum_kind chunk mul_kind)) (direct (chunked_program words chunk more) x joint) [] (statements more))) rest
-    → Gives (performed (statements_of (gadget_g (psum_kind chunk mul_kind)) (direct (chunked_program words chunk more) x joint) [] (chunked_program words chunk more).stmts)) (join_results (checks_only (range_sum x joint (quotient_up words chunk) chunk % modulus ∷ [])) rest)
+    → Gives (all_results (statements_of (gadget_g (psum_kind chunk mul_kind)) (direct (chunked_program words chunk more) x joint) [] (statements more))) rest
+    → Gives (all_results (statements_of (gadget_g (psum_kind chunk mul_kind)) (direct (chunked_program words chunk more) x joint) [] (chunked_program words chunk more).stmts)) (join_results (checks_only (range_sum x joint (quotient_up words chunk) chunk % modulus ∷ [])) rest)
 gives_chunked words chunk more x joint rest h =
     let kind = psum_kind chunk mul_kind in
     let body = chunked_program words chunk more in
@@ -102,7 +102,7 @@ sum_vec_outs length bits x = map (λ i. sum_below bits (λ j. 2 ^ j * word x (i 
 unfoldable pub word_outs : ℕ → List ℕ → List ℕ
 word_outs length x = map (λ i. word x i % modulus) (numbers_from 0 length)
 
-pub gives_sum_vec : (words length bits chunk : ℕ) (x joint : List ℕ) → Gives (performed (statements_of (gadget_g (psum_kind chunk mul_kind)) (direct (chunked_program words chunk (sum_vec_statements length bits)) x joint) [] (statements (sum_vec_statements length bits)))) (outs_only (sum_vec_outs length bits x))
+pub gives_sum_vec : (words length bits chunk : ℕ) (x joint : List ℕ) → Gives (all_results (statements_of (gadget_g (psum_kind chunk mul_kind)) (direct (chunked_program words chunk (sum_vec_statements length bits)) x joint) [] (statements (sum_vec_statements length bits)))) (outs_only (sum_vec_outs length bits x))
 unfolding sum_vec_outs
 gives_sum_vec words length bits chunk x joint =
     let kind = psum_kind chunk mul_kind in
@@ -113,7 +113,7 @@ gives_sum_vec words length bits chunk x joint =
     gives_bits kind body x joint (inside [] name_i i) 74 bits name_j (in_row 87 name_i bits name_j) (λ j. i * bits + j) (λ j. refl) (λ j. omega arith)))
     (gives_nil join_results no_results)) (ap outs_only (append-nil _))
 
-pub gives_word_outs : (words chunk : ℕ) (more : List Statement) (at length : ℕ) (x joint : List ℕ) → Gives (performed (statements_of (gadget_g (psum_kind chunk mul_kind)) (direct (chunked_program words chunk more) x joint) [] (statements (each_word_out at length ∷ [])))) (outs_only (word_outs length x))
+pub gives_word_outs : (words chunk : ℕ) (more : List Statement) (at length : ℕ) (x joint : List ℕ) → Gives (all_results (statements_of (gadget_g (psum_kind chunk mul_kind)) (direct (chunked_program words chunk more) x joint) [] (statements (each_word_out at length ∷ [])))) (outs_only (word_outs length x))
 unfolding word_outs
 gives_word_outs words chunk more at length x joint =
     let kind = psum_kind chunk mul_kind in
@@ -122,7 +122,7 @@ gives_word_outs words chunk more at length x joint =
     (gives_each_out kind body x joint at length name_i (meas (at + 8) (index_var (at + 10) name_i)) (word x) (λ i. record { at = λ made. refl }))
     (gives_nil join_results no_results)) (ap outs_only (append-nil _))
 
-pub gives_histogram : (length chunk : ℕ) (x joint : List ℕ) → Gives (performed (statements_of (gadget_g (psum_kind chunk mul_kind)) (direct (chunked_program length chunk (histogram_statements length)) x joint) [] (statements (histogram_statements length)))) (record { checks = minus (sum_below length (word x)) 1 % modulus ∷ []; outs = word_outs length x })
+pub gives_histogram : (length chunk : ℕ) (x joint : List ℕ) → Gives (all_results (statements_of (gadget_g (psum_kind chunk mul_kind)) (direct (chunked_program length chunk (histogram_statements length)) x joint) [] (statements (histogram_statements length)))) (record { checks = minus (sum_below length (word x)) 1 % modulus ∷ []; outs = word_outs length x })
 gives_histogram length chunk x joint =
     let kind = psum_kind chunk mul_kind in
     let body = chunked_program length chunk (histogram_statements length) in
@@ -132,7 +132,7 @@ gives_histogram length chunk x joint =
     (gives_difference kind body x joint 67 (words_sum 67 name_i length) (num 80 1) (sum_below length (word x)) 1 (gives_words kind body x joint 67 length) (gives_plain 1)))
     (gives_word_outs length chunk (histogram_statements length) 82 length x joint)
 
-pub gives_multihot : (length b f chunk : ℕ) (x joint : List ℕ) → Gives (performed (statements_of (gadget_g (psum_kind chunk mul_kind)) (direct (chunked_program (length + b) chunk (multihot_statements length b f)) x joint) [] (statements (multihot_statements length b f)))) (record { checks = minus (f + sum_below length (word x)) (number_at x length b) % modulus ∷ []; outs = word_outs length x })
+pub gives_multihot : (length b f chunk : ℕ) (x joint : List ℕ) → Gives (all_results (statements_of (gadget_g (psum_kind chunk mul_kind)) (direct (chunked_program (length + b) chunk (multihot_statements length b f)) x joint) [] (statements (multihot_statements length b f)))) (record { checks = minus (f + sum_below length (word x)) (number_at x length b) % modulus ∷ []; outs = word_outs length x })
 gives_multihot length b f chunk x joint =
     let kind = psum_kind chunk mul_kind in
     let body = chunked_program (length + b) chunk (multihot_statements length b f) in

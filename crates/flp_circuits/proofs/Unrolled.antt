@@ -4,8 +4,8 @@ use Rattle.std.specs.List.{flat_map, sum_by}
 use Rattle.std.proofs.Math.Nat.{mul-le-mul}
 use Rattle.std.proofs.lemmas.Bool.{eq-eqb}
 use Rattle.flp_syntax.specs.Tree.{Index, Tree, Statement, Program, index_var, joint, meas, add, mul, pow, each_arg, check, out, each, items, trees, arguments, statements}
-use Rattle.flp_syntax.specs.Scope.{Scope, inside, bound_value, index_value, turns}
-use Rattle.flp_check.specs.Events.{bad_arity, gadget_call, a_check, an_out, in_range, in_words, index_events, range_events, tree_events, arg_events, args_events, args_count, call_events, stmt_events, stmts_events}
+use Rattle.flp_syntax.specs.Scope.{Scope, inside, bound_value, index_value, turns, args_count}
+use Rattle.flp_check.specs.Events.{bad_arity, gadget_call, a_check, an_out, in_range, in_words, index_events, range_events, tree_events, arg_events, args_events, call_events, stmt_events, stmts_events}
 use Rattle.flp_circuits.specs.Standard.{name_i, name_j, name_c, num, idx, index_sum_of, index_product_of, shifted, in_row, sum_below, bits_sum, words_sum, word_of_chunk, joint_power, chunk_args, chunk_call, range_check, chunked_program}
 use Rattle.flp_circuits.proofs.Gives.{turns-zero}
 use Rattle.flp_circuits.proofs.Meets.{Tally, tally, added, times, nodes, Meets, tally-same, meets_as, meets_same, meets_none, meets_append, meets_visit, meets_call, meets_check, meets_out, meets_node, meets_loop, meets_in_range, meets_in_words, sum_by-constant}

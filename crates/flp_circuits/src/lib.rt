@@ -24,6 +24,3 @@ pub use body::body_of;
 pub use encoding::encode;
 pub use fault::{MeasFault, Param, ParamFault};
 pub use params::{fits, input_len, meas_len};
-
-#[cfg(test)]
-mod tests;

@@ -1,398 +1,177 @@
--- From what a command did, and its fault, to what its run does.
-use Rattle.std.proofs.Common.{◌≡◌, ℕ, ◌≤◌, Bool, Option, None, Some, Result, Ok, Err, List, [], refl, sym, ap, subst, inl, inr, ◌⊎◌, ⊎_elim, arith, rules, take}
-use Rattle.std.specs.Prelude.{IfSome, IfErr, OnOk, OnErr, MatchResult, IsTrue}
-use Rattle.std.specs.Io.KnownBytes.{Appends, Keeps}
-use Rattle.std.proofs.KnownBytes.{Consumes-nil, Keeps-refl}
-use Rattle.flp_syntax.specs.declared.syntax.Params.{Params}
-use Rattle.flp_syntax.specs.Tree.{Program}
-use Rattle.flp_load.specs.declared.fault.CircuitFault.{CircuitFault}
-use Rattle.flp_load.specs.Fault.{IsCircuitFault}
-use Rattle.flp_load.specs.Loaded.{IsLoaded}
-use Rattle.flp_load.specs.Laws.{NeverBoth}
-use Rattle.flp_policy.specs.Policy.{Counts}
-use Rattle.flp_report.specs.declared.fault.BatchFault.{BatchFault}
-use Rattle.flp_batch.specs.declared.fault.EngineFault.{EngineFault}
-use Rattle.flp_batch.specs.declared.fault.EngineFault.TheVariants as batch
-use Rattle.flp_batch.specs.Fault.{IfFile}
-use Rattle.flp_batch.specs.Setting.{Setting}
+-- From the end of a command's call to its run.
+use Rattle.std.proofs.Common.{◌≡◌, ℕ, ◌≤◌, Bool, true, false, ◌||◌, Option, None, Some, Result, Ok, Err, List, [], ◌∷◌, refl, sym, ap, subst, inl, inr, ◌⊎◌, ⊎_elim, arith}
+use Rattle.std.specs.Prelude.{◌==◌, IsTrue}
+use Rattle.std.specs.Io.KnownBytes.{Appends}
+use Rattle.std.proofs.KnownBytes.{Consumes-nil}
 use Rattle.flp_report.specs.Reads.{ConsumesWithin}
-use Rattle.flp_batch.specs.File.{IsBatch, IsFault, front_size}
-use Rattle.flp_batch.specs.Batch.{TakesFew as TakesFewOfBatch}
-use Rattle.flp_batch.specs.Reply.{WritesText, StopsInText, StopsEarly}
-use Rattle.flp_verify.specs.Text.{lines_by, text_by}
-use Rattle.flp_lengths.specs.declared.command.LengthsFault.{LengthsFault}
-use Rattle.flp_lengths.specs.declared.command.LengthsFault.TheVariants as lengths
-use Rattle.flp_lengths.specs.Reading.{TakesFew, ReadsText}
-use Rattle.flp_lengths.specs.Reply.{WritesLengths, StopsInLengths, RefusesText}
-use Rattle.flp_cli.specs.Answers.{batch_status, engine_line, file_status, lengths_status, lengths_line}
-use Rattle.flp_cli.specs.Reply.{Verifies, StopsLate}
-use Rattle.flp_cli.specs.Stream.{Stream, stream, Failed, IsQuiet}
-use Rattle.flp_cli.specs.Runs.{Refuses, RunsVerify, RunsLines, RunsLengths}
+use Rattle.flp_io.specs.Writes.{TakesPrefix}
+use Rattle.flp_batch.specs.declared.fault.EngineFault.{EngineFault}
+use Rattle.flp_batch.specs.declared.fault.EngineFault.TheVariants.{Memory, Read, Write, Batch, Circuit}
+use Rattle.flp_jobs.specs.declared.fault.ProveFault.{ProveFault}
+use Rattle.flp_jobs.specs.declared.fault.ProveFault.TheVariants.{File, Place}
+use Rattle.flp_cli.specs.Answers.{IsRefusalStatus, is_one_of, status_of, failure_line, status_line, end_status, end_line, by_file}
+use Rattle.flp_cli.specs.Runs.{Done, Refused, Duty, Writes, Runs}
+use Rattle.flp_cli.specs.Ends.{HasOneReply, RefusesInput, EndsAs}
+use Rattle.flp_cli.specs.Stream.{Stream, Failed, Says}
 use Rattle.flp_cli.proofs.StatusLemmas.{file-status, whole-read, told}
 
--- ---- `verify`
+-- no status below 6 is a refusal
+pub not_refused : {A : Type 0} (status : ℕ) → (status ≡ 6 → ⊥) → (status ≡ 7 → ⊥) → (status ≡ 8 → ⊥) → IsRefusalStatus status → A
+not_refused status six seven eight is = absurd (⊎_elim six (λ more. ⊎_elim seven eight more) is)
 
--- a file is never a batch and refused
-abbrev pub BatchNeverBoth : Type 0
-BatchNeverBoth =
-    (party : Option ℕ) (bytes : List ℕ) (params : Option Params) (setting : Setting) (fault : EngineFault)
-    → IsBatch party bytes params setting → IsFault party bytes fault → ⊥
+-- a refusal is none of these statuses
+abbrev IsLow : ℕ → Type 0
+IsLow n = (n ≡ 0) ⊎ (n ≡ 4) ⊎ (n ≡ 5)
 
--- and has one fault
-abbrev pub BatchOneFault : Type 0
-BatchOneFault =
-    (party : Option ℕ) (bytes : List ℕ) (fault other : EngineFault)
-    → IsFault party bytes fault → IsFault party bytes other → fault ≡ other
+not_low : (n : ℕ) → IsRefusalStatus n → IsLow n → ⊥
+not_low n is low = ⊎_elim
+    (λ (zero : n ≡ 0). not_refused n (λ six. omega arith) (λ seven. omega arith) (λ eight. omega arith) is)
+    (λ more. ⊎_elim
+    (λ (four : n ≡ 4). not_refused n (λ six. omega arith) (λ seven. omega arith) (λ eight. omega arith) is)
+    (λ (five : n ≡ 5). not_refused n (λ six. omega arith) (λ seven. omega arith) (λ eight. omega arith) is) more)
+    low
 
--- what holds without asking the policies holds where they allow it
-verifies : (left left' taken taken' : Option (List ℕ)) (would : Counts → List Bool) → WritesText None text_by left left' taken taken' → Verifies left left' taken taken' would
-verifies left left' taken taken' would done =
-    record { bytes = done.bytes; params = done.params; setting = done.setting; read = done.read; ended = done.ended; is_batch = done.is_batch; written = λ _. done.written }
+-- a refusal of the duty is one of the statuses that its run may have
+or-more : (this rest : Bool) → rest ≡ true → (this || rest) ≡ true
+or-more true rest is = refl
+or-more false rest is = is
 
-stops_late : (left left' taken taken' : Option (List ℕ)) (would : Counts → List Bool) → StopsInText None text_by left left' taken taken' → StopsLate left left' taken taken' would
-stops_late left left' taken taken' would done =
-    record { bytes = done.bytes; params = done.params; setting = done.setting; read = done.read; ended = done.ended; is_batch = done.is_batch; written = λ _. done.written }
+known-refused : (status : ℕ) (refusals : List ℕ) → IsTrue (is_one_of status refusals) → IsTrue (is_one_of status (0 ∷ 3 ∷ 4 ∷ 5 ∷ refusals))
+known-refused status refusals is =
+    or-more (0 == status) _ (or-more (3 == status) _ (or-more (4 == status) _ (or-more (5 == status) _ is)))
 
--- the fault in an error
-abbrev pub at-write : {A B T : Type 0} (fault : EngineFault) → A ⊎ ((◌≡◌ {A = Result T EngineFault} (Err fault) (Err batch.Write)) × B) → A ⊎ ((fault ≡ batch.Write) × B)
-at-write fault (inl early) = inl early
-at-write fault (inr late) = let same : fault ≡ batch.Write = cc late.0 in inr (same, late.1)
-
-verify-done : BatchNeverBoth → (would : Counts → List Bool) (input output errors : Stream) → WritesText None text_by input.old input.new output.old output.new
-    → TakesFewOfBatch None input.old input.new → RunsVerify would input output errors 0
-verify-done never would input output errors done few = record {
-  known = search rules;
-  done = λ _. verifies input.old input.new output.old output.new would done;
-  stopped = λ other. absurd (other refl);
-  refused = λ is. absurd (⊎_elim (λ (six : 0 ≡ 6). omega arith) (λ (seven : 0 ≡ 7). omega arith) is);
-  few = few;
-  complete = λ bytes is quiet_in quiet_out params setting is_batch. inr refl;
-  refuses = λ bytes is quiet_in quiet_out fault refused.
+run-done : (duty : Duty) → HasOneReply duty → (input output errors : Stream) → Writes duty Appends input output → duty.takes input.old input.new
+    → Says errors [] → Runs duty input output errors 0
+run-done duty one input output errors done takes line = record {
+  known = refl;
+  done = λ _. done;
+  refused = not_refused 0 (λ six. omega arith) (λ seven. omega arith) (λ eight. omega arith);
+  read_fault = λ is. absurd (omega arith);
+  write_fault = λ is. absurd (omega arith);
+  line = λ _. line;
+  decided = λ bytes is quiet_in quiet_out reply replied.
       let all : bytes ≡ done.bytes = whole-read input.old input.new bytes done.bytes is done.read done.ended in
-      absurd (never None done.bytes done.params done.setting fault done.is_batch (subst (λ (b : List ℕ). IsFault None b fault) all refused));
+      inr (one bytes (Done done.text) reply (subst (λ (b : List ℕ). duty.replies b (Done done.text)) (sym all) done.replied) replied);
+  stopped = λ other. absurd (other refl);
+  takes = takes;
 }
 
+-- a stream with which nothing was done
+abbrev pub still : Option (List ℕ) → ℕ → Stream
+still bytes count = record { old = bytes; new = bytes; faults = count; faults_now = count }
+
+-- of a file nothing is read
+pub within-none : (limit : List ℕ → ℕ) (left : Option (List ℕ)) → ConsumesWithin limit left left
+within-none limit None = tt
+within-none limit (Some xs) = let none : 0 ≤ limit xs = omega arith in record { bytes = []; few = none; gone = Consumes-nil (Some xs) }
+
 -- an end for want of memory
-verify-memory : (would : Counts → List Bool) (input output errors : Stream) → StopsEarly None lines_by input.old input.new output.old output.new
-    → TakesFewOfBatch None input.old input.new → RunsVerify would input output errors 3
-verify-memory would input output errors early few = record {
-  known = search rules;
+pub run-memory : (duty : Duty) (input output errors : Stream) → duty.early 3 input output → duty.takes input.old input.new
+    → Says errors (status_line 3) → Runs duty input output errors 3
+run-memory duty input output errors early takes line = record {
+  known = refl;
   done = λ is. absurd (omega arith);
+  refused = not_refused 3 (λ six. omega arith) (λ seven. omega arith) (λ eight. omega arith);
+  read_fault = λ is. absurd (omega arith);
+  write_fault = λ is. absurd (omega arith);
+  line = λ _. line;
+  decided = λ bytes is quiet_in quiet_out reply replied. inl refl;
   stopped = λ _. inl early;
-  refused = λ is. absurd (⊎_elim (λ (six : 3 ≡ 6). omega arith) (λ (seven : 3 ≡ 7). omega arith) is);
-  few = few;
-  complete = λ bytes is quiet_in quiet_out params setting is_batch. inl refl;
-  refuses = λ bytes is quiet_in quiet_out fault refused. inl refl;
+  takes = takes;
 }
 
 -- an end for a failed read
-verify-read : (would : Counts → List Bool) (input output errors : Stream) → StopsEarly None lines_by input.old input.new output.old output.new
-    → TakesFewOfBatch None input.old input.new → Failed input → RunsVerify would input output errors 4
-verify-read would input output errors early few failed = record {
-  known = search rules;
+run-read : (duty : Duty) (input output errors : Stream) → duty.early 4 input output → duty.takes input.old input.new
+    → Failed input → Says errors (status_line 4) → Runs duty input output errors 4
+run-read duty input output errors early takes failed line = record {
+  known = refl;
   done = λ is. absurd (omega arith);
+  refused = not_refused 4 (λ six. omega arith) (λ seven. omega arith) (λ eight. omega arith);
+  read_fault = λ _. failed;
+  write_fault = λ is. absurd (omega arith);
+  line = λ _. line;
+  decided = λ bytes is quiet_in quiet_out reply replied. absurd (quiet_in failed);
   stopped = λ _. inl early;
-  refused = λ is. absurd (⊎_elim (λ (six : 4 ≡ 6). omega arith) (λ (seven : 4 ≡ 7). omega arith) is);
-  few = few;
-  complete = λ bytes is quiet_in quiet_out params setting is_batch. absurd (quiet_in failed);
-  refuses = λ bytes is quiet_in quiet_out fault refused. absurd (quiet_in failed);
+  takes = takes;
 }
 
 -- an end for a failed write
-verify-write : (would : Counts → List Bool) (input output errors : Stream)
-    → StopsEarly None lines_by input.old input.new output.old output.new ⊎ StopsInText None text_by input.old input.new output.old output.new
-    → TakesFewOfBatch None input.old input.new → Failed output → RunsVerify would input output errors 5
-verify-write would input output errors stopped few failed = record {
-  known = search rules;
+run-write : (duty : Duty) (input output errors : Stream) → duty.early 5 input output ⊎ Writes duty TakesPrefix input output → duty.takes input.old input.new
+    → Failed output → Says errors (status_line 5) → Runs duty input output errors 5
+run-write duty input output errors stopped takes failed line = record {
+  known = refl;
   done = λ is. absurd (omega arith);
-  stopped = λ _. ⊎_elim (λ early. inl early) (λ late. inr (refl, stops_late input.old input.new output.old output.new would late)) stopped;
-  refused = λ is. absurd (⊎_elim (λ (six : 5 ≡ 6). omega arith) (λ (seven : 5 ≡ 7). omega arith) is);
-  few = few;
-  complete = λ bytes is quiet_in quiet_out params setting is_batch. absurd (quiet_out failed);
-  refuses = λ bytes is quiet_in quiet_out fault refused. absurd (quiet_out failed);
+  refused = not_refused 5 (λ six. omega arith) (λ seven. omega arith) (λ eight. omega arith);
+  read_fault = λ is. absurd (omega arith);
+  write_fault = λ _. failed;
+  line = λ _. line;
+  decided = λ bytes is quiet_in quiet_out reply replied. absurd (quiet_out failed);
+  stopped = λ _. ⊎_elim (λ early. inl early) (λ late. inr (refl, late)) stopped;
+  takes = takes;
 }
 
--- an end for the first fault of the file, whose status is 6 or 7
-verify-refused : BatchNeverBoth → BatchOneFault → (would : Counts → List Bool) (input output errors : Stream) (fault : EngineFault)
-    → (batch_status fault ≡ 6) ⊎ (batch_status fault ≡ 7)
-    → StopsEarly None lines_by input.old input.new output.old output.new
-    → IfSome input.old (λ bytes. IsFault None bytes fault) → TakesFewOfBatch None input.old input.new
-    → (IsQuiet errors → Appends errors.old errors.new (engine_line fault)) → RunsVerify would input output errors (batch_status fault)
-verify-refused never one would input output errors fault six_seven early is_fault few line = record {
-  known = ⊎_elim (λ (six : batch_status fault ≡ 6). rw six (search rules)) (λ (seven : batch_status fault ≡ 7). rw seven (search rules)) six_seven;
-  done = λ is. absurd (⊎_elim (λ (six : batch_status fault ≡ 6). omega arith) (λ (seven : batch_status fault ≡ 7). omega arith) six_seven);
-  stopped = λ _. inl early;
-  refused = λ _. record { fault = fault; is = is_fault; status_is = refl; says = line };
-  few = few;
-  complete = λ bytes is quiet_in quiet_out params setting is_batch.
-      absurd (never None bytes params setting fault is_batch (told input.old bytes (λ b. IsFault None b fault) is is_fault));
-  refuses = λ bytes is quiet_in quiet_out other refused.
-      inr (ap batch_status (one None bytes fault other (told input.old bytes (λ b. IsFault None b fault) is is_fault) refused));
-}
+-- an end for a refusal
+run-refused : (duty : Duty) → HasOneReply duty → (input output errors : Stream) (fault : ProveFault) → IsRefusalStatus (status_of fault)
+    → RefusesInput duty input fault → duty.early (status_of fault) input output → duty.takes input.old input.new
+    → Says errors (failure_line duty.kind fault) → Runs duty input output errors (status_of fault)
+run-refused duty one input output errors fault status refused early takes line =
+    record {
+      known = known-refused (status_of fault) duty.refusals refused.known;
+      done = λ is. absurd (not_low (status_of fault) status (inl is));
+      refused = λ _. record { fault = fault; replied = refused.replied; status_is = refl; says = line };
+      read_fault = λ is. absurd (not_low (status_of fault) status (inr (inl is)));
+      write_fault = λ is. absurd (not_low (status_of fault) status (inr (inr is)));
+      line = λ other. absurd (other status);
+      decided = λ bytes is quiet_in quiet_out reply replied.
+          inr (one bytes (Refused fault) reply (told input.old bytes (λ b. duty.replies b (Refused fault)) is refused.replied) replied);
+      stopped = λ _. inl early;
+      takes = takes;
+    }
 
 -- what is said of an end that is not for a failed write
-early-of : {A B : Type 0} (fault : EngineFault) → (fault ≡ batch.Write → ⊥) → A ⊎ ((fault ≡ batch.Write) × B) → A
+early-of : {A B : Type 0} (fault : ProveFault) → (fault ≡ File Write → ⊥) → A ⊎ ((fault ≡ File Write) × B) → A
 early-of fault other (inl early) = early
 early-of fault other (inr late) = absurd (other late.0)
 
-either-of : {A B : Type 0} (fault : EngineFault) → A ⊎ ((fault ≡ batch.Write) × B) → A ⊎ B
-either-of fault (inl early) = inl early
-either-of fault (inr late) = inr late.1
+either-of : {A B C : Type 0} → A ⊎ (C × B) → A ⊎ B
+either-of (inl early) = inl early
+either-of (inr late) = inr late.1
 
-verify-stopped : BatchNeverBoth → BatchOneFault → (would : Counts → List Bool) (input output errors : Stream) (fault : EngineFault)
-    → StopsEarly None lines_by input.old input.new output.old output.new ⊎ ((fault ≡ batch.Write) × StopsInText None text_by input.old input.new output.old output.new)
-    → IfFile fault (λ f. IfSome input.old (λ bytes. IsFault None bytes f)) → TakesFewOfBatch None input.old input.new
-    → (fault ≡ batch.Read → Failed input) → (fault ≡ batch.Write → Failed output)
-    → (IsQuiet errors → Appends errors.old errors.new (engine_line fault)) → RunsVerify would input output errors (batch_status fault)
-verify-stopped never one would input output errors batch.Memory stopped is_fault few failed_in failed_out line =
-    verify-memory would input output errors (early-of batch.Memory (λ is. cc) stopped) few
-verify-stopped never one would input output errors batch.Read stopped is_fault few failed_in failed_out line =
-    verify-read would input output errors (early-of batch.Read (λ is. cc) stopped) few (failed_in refl)
-verify-stopped never one would input output errors batch.Write stopped is_fault few failed_in failed_out line =
-    verify-write would input output errors (either-of batch.Write stopped) few (failed_out refl)
-verify-stopped never one would input output errors (batch.Batch why) stopped is_fault few failed_in failed_out line =
-    verify-refused never one would input output errors (batch.Batch why) (file-status why) (early-of (batch.Batch why) (λ is. cc) stopped) is_fault few line
-verify-stopped never one would input output errors (batch.Circuit why) stopped is_fault few failed_in failed_out line =
-    verify-refused never one would input output errors (batch.Circuit why) (inr refl) (early-of (batch.Circuit why) (λ is. cc) stopped) is_fault few line
-
--- whichever way it ended
-pub verify-ended : {T : Type 0} → BatchNeverBoth → BatchOneFault → (would : Counts → List Bool) (input output errors : Stream) (ended : Result T EngineFault) (status : ℕ)
-    → OnOk ended (WritesText None text_by input.old input.new output.old output.new)
-    → OnErr ended (StopsEarly None lines_by input.old input.new output.old output.new ⊎ ((ended ≡ Err batch.Write) × StopsInText None text_by input.old input.new output.old output.new))
-    → IfErr ended (λ fault. IfFile fault (λ f. IfSome input.old (λ bytes. IsFault None bytes f))) → TakesFewOfBatch None input.old input.new
-    → (ended ≡ Err batch.Read → Failed input) → (ended ≡ Err batch.Write → Failed output)
-    → MatchResult ended (λ _. status ≡ 0) (λ fault. status ≡ batch_status fault)
-    → (IsQuiet errors → MatchResult ended (λ _. Keeps errors.old errors.new) (λ fault. Appends errors.old errors.new (engine_line fault)))
-    → RunsVerify would input output errors status
-verify-ended never one would input output errors (Ok done) status written stopped is_fault few failed_in failed_out is line =
-    rw is (verify-done never would input output errors written few)
-verify-ended never one would input output errors (Err fault) status written stopped is_fault few failed_in failed_out is line =
-    rw is (verify-stopped never one would input output errors fault (at-write fault stopped) is_fault few
-    (λ same. failed_in (ap Err same)) (λ same. failed_out (ap Err same)) line)
-
--- nothing was taken
-pub takes-none : (limit : List ℕ → ℕ) (left : Option (List ℕ)) → ConsumesWithin limit left left
-takes-none limit None = tt
-takes-none limit (Some xs) = let none : 0 ≤ limit xs = omega arith in record { bytes = []; few = none; gone = Consumes-nil (Some xs) }
-
--- no memory for the words: nothing was read or written
-pub verify-unread : (would : Counts → List Bool) (left taken : Option (List ℕ)) (reads writes : ℕ) (errors : Stream)
-    → RunsVerify would (stream left left reads reads) (stream taken taken writes writes) errors 3
-verify-unread would left taken reads writes errors =
-    verify-memory would (stream left left reads reads) (stream taken taken writes writes) errors
-    (record { bytes = []; read = Consumes-nil left; written = inl (Keeps-refl taken) }) (inl (takes-none (front_size None) left))
-
--- ---- lines of a batch
-
-lines-memory : (party : Option ℕ) (lines : Setting → List (List ℕ) → List ℕ) (input output errors : Stream) → StopsEarly party lines input.old input.new output.old output.new
-    → TakesFewOfBatch party input.old input.new → RunsLines party lines input output errors 3
-lines-memory party lines input output errors early few = record {
-  known = search rules;
-  done = λ is. absurd (omega arith);
-  stopped = λ _. early;
-  refused = λ is. absurd (⊎_elim (λ (six : 3 ≡ 6). omega arith) (λ (seven : 3 ≡ 7). omega arith) is);
-  few = few;
-  complete = λ bytes is quiet_in quiet_out params setting is_batch. inl refl;
-  refuses = λ bytes is quiet_in quiet_out fault refused. inl refl;
-}
-
-lines-read : (party : Option ℕ) (lines : Setting → List (List ℕ) → List ℕ) (input output errors : Stream) → StopsEarly party lines input.old input.new output.old output.new
-    → TakesFewOfBatch party input.old input.new → Failed input → RunsLines party lines input output errors 4
-lines-read party lines input output errors early few failed = record {
-  known = search rules;
-  done = λ is. absurd (omega arith);
-  stopped = λ _. early;
-  refused = λ is. absurd (⊎_elim (λ (six : 4 ≡ 6). omega arith) (λ (seven : 4 ≡ 7). omega arith) is);
-  few = few;
-  complete = λ bytes is quiet_in quiet_out params setting is_batch. absurd (quiet_in failed);
-  refuses = λ bytes is quiet_in quiet_out fault refused. absurd (quiet_in failed);
-}
-
-lines-write : (party : Option ℕ) (lines : Setting → List (List ℕ) → List ℕ) (input output errors : Stream) → StopsEarly party lines input.old input.new output.old output.new
-    → TakesFewOfBatch party input.old input.new → Failed output → RunsLines party lines input output errors 5
-lines-write party lines input output errors early few failed = record {
-  known = search rules;
-  done = λ is. absurd (omega arith);
-  stopped = λ _. early;
-  refused = λ is. absurd (⊎_elim (λ (six : 5 ≡ 6). omega arith) (λ (seven : 5 ≡ 7). omega arith) is);
-  few = few;
-  complete = λ bytes is quiet_in quiet_out params setting is_batch. absurd (quiet_out failed);
-  refuses = λ bytes is quiet_in quiet_out fault refused. absurd (quiet_out failed);
-}
-
-lines-refused : BatchNeverBoth → BatchOneFault → (party : Option ℕ) (lines : Setting → List (List ℕ) → List ℕ) (input output errors : Stream) (fault : EngineFault)
-    → (batch_status fault ≡ 6) ⊎ (batch_status fault ≡ 7)
-    → StopsEarly party lines input.old input.new output.old output.new
-    → IfSome input.old (λ bytes. IsFault party bytes fault) → TakesFewOfBatch party input.old input.new
-    → (IsQuiet errors → Appends errors.old errors.new (engine_line fault)) → RunsLines party lines input output errors (batch_status fault)
-lines-refused never one party lines input output errors fault six_seven early is_fault few line = record {
-  known = ⊎_elim (λ (six : batch_status fault ≡ 6). rw six (search rules)) (λ (seven : batch_status fault ≡ 7). rw seven (search rules)) six_seven;
-  done = λ is. absurd (⊎_elim (λ (six : batch_status fault ≡ 6). omega arith) (λ (seven : batch_status fault ≡ 7). omega arith) six_seven);
-  stopped = λ _. early;
-  refused = λ _. record { fault = fault; is = is_fault; status_is = refl; says = line };
-  few = few;
-  complete = λ bytes is quiet_in quiet_out params setting is_batch.
-      absurd (never party bytes params setting fault is_batch (told input.old bytes (λ b. IsFault party b fault) is is_fault));
-  refuses = λ bytes is quiet_in quiet_out other refused.
-      inr (ap batch_status (one party bytes fault other (told input.old bytes (λ b. IsFault party b fault) is is_fault) refused));
-}
-
-lines-done : BatchNeverBoth → (party : Option ℕ) (lines : Setting → List (List ℕ) → List ℕ) (input output errors : Stream) → WritesText party lines input.old input.new output.old output.new
-    → TakesFewOfBatch party input.old input.new → RunsLines party lines input output errors 0
-lines-done never party lines input output errors done few = record {
-  known = search rules;
-  done = λ _. done;
-  stopped = λ other. absurd (other refl);
-  refused = λ is. absurd (⊎_elim (λ (six : 0 ≡ 6). omega arith) (λ (seven : 0 ≡ 7). omega arith) is);
-  few = few;
-  complete = λ bytes is quiet_in quiet_out params setting is_batch. inr refl;
-  refuses = λ bytes is quiet_in quiet_out fault refused.
-      let all : bytes ≡ done.bytes = whole-read input.old input.new bytes done.bytes is done.read done.ended in
-      absurd (never party done.bytes done.params done.setting fault done.is_batch (subst (λ (b : List ℕ). IsFault party b fault) all refused));
-}
-
-lines-stopped : BatchNeverBoth → BatchOneFault → (party : Option ℕ) (lines : Setting → List (List ℕ) → List ℕ) (input output errors : Stream) (fault : EngineFault)
-    → StopsEarly party lines input.old input.new output.old output.new
-    → IfFile fault (λ f. IfSome input.old (λ bytes. IsFault party bytes f)) → TakesFewOfBatch party input.old input.new
-    → (fault ≡ batch.Read → Failed input) → (fault ≡ batch.Write → Failed output)
-    → (IsQuiet errors → Appends errors.old errors.new (engine_line fault)) → RunsLines party lines input output errors (batch_status fault)
-lines-stopped never one party lines input output errors batch.Memory early is_fault few failed_in failed_out line =
-    lines-memory party lines input output errors early few
-lines-stopped never one party lines input output errors batch.Read early is_fault few failed_in failed_out line =
-    lines-read party lines input output errors early few (failed_in refl)
-lines-stopped never one party lines input output errors batch.Write early is_fault few failed_in failed_out line =
-    lines-write party lines input output errors early few (failed_out refl)
-lines-stopped never one party lines input output errors (batch.Batch why) early is_fault few failed_in failed_out line =
-    lines-refused never one party lines input output errors (batch.Batch why) (file-status why) early is_fault few line
-lines-stopped never one party lines input output errors (batch.Circuit why) early is_fault few failed_in failed_out line =
-    lines-refused never one party lines input output errors (batch.Circuit why) (inr refl) early is_fault few line
+run-stopped : (duty : Duty) → HasOneReply duty → (input output errors : Stream) (fault : ProveFault)
+    → duty.early (status_of fault) input output ⊎ ((fault ≡ File Write) × Writes duty TakesPrefix input output)
+    → (IsRefusalStatus (status_of fault) → RefusesInput duty input fault)
+    → (fault ≡ File Read → Failed input) → (fault ≡ File Write → Failed output) → duty.takes input.old input.new
+    → Says errors (failure_line duty.kind fault) → Runs duty input output errors (status_of fault)
+run-stopped duty one input output errors (File Memory) stopped refused read write takes line =
+    run-memory duty input output errors (early-of (File Memory) (λ is. cc) stopped) takes line
+run-stopped duty one input output errors (File Read) stopped refused read write takes line =
+    run-read duty input output errors (early-of (File Read) (λ is. cc) stopped) takes (read refl) line
+run-stopped duty one input output errors (File Write) stopped refused read write takes line =
+    run-write duty input output errors (either-of stopped) takes (write refl) line
+run-stopped duty one input output errors (File (Batch why)) stopped refused read write takes line =
+    let status : IsRefusalStatus (status_of (File (Batch why))) = ⊎_elim (λ six. inl six) (λ seven. inr (inl seven)) (file-status why) in
+    run-refused duty one input output errors (File (Batch why)) status (refused status) (early-of (File (Batch why)) (λ is. cc) stopped) takes line
+run-stopped duty one input output errors (File (Circuit why)) stopped refused read write takes line =
+    let status : IsRefusalStatus (status_of (File (Circuit why))) = inr (inl refl) in
+    run-refused duty one input output errors (File (Circuit why)) status (refused status) (early-of (File (Circuit why)) (λ is. cc) stopped) takes line
+run-stopped duty one input output errors (Place place why) stopped refused read write takes line =
+    let status : IsRefusalStatus (status_of (Place place why)) = inr (inr refl) in
+    run-refused duty one input output errors (Place place why) status (refused status) (early-of (Place place why) (λ is. cc) stopped) takes line
 
 -- whichever way it ended
-pub lines-ended : {T : Type 0} → BatchNeverBoth → BatchOneFault → (party : Option ℕ) (lines : Setting → List (List ℕ) → List ℕ) (input output errors : Stream) (ended : Result T EngineFault) (status : ℕ)
-    → OnOk ended (WritesText party lines input.old input.new output.old output.new)
-    → OnErr ended (StopsEarly party lines input.old input.new output.old output.new)
-    → IfErr ended (λ fault. IfFile fault (λ f. IfSome input.old (λ bytes. IsFault party bytes f))) → TakesFewOfBatch party input.old input.new
-    → (ended ≡ Err batch.Read → Failed input) → (ended ≡ Err batch.Write → Failed output)
-    → MatchResult ended (λ _. status ≡ 0) (λ fault. status ≡ batch_status fault)
-    → (IsQuiet errors → MatchResult ended (λ _. Keeps errors.old errors.new) (λ fault. Appends errors.old errors.new (engine_line fault)))
-    → RunsLines party lines input output errors status
-lines-ended never one party lines input output errors (Ok done) status written stopped is_fault few failed_in failed_out is line =
-    rw is (lines-done never party lines input output errors written few)
-lines-ended never one party lines input output errors (Err fault) status written stopped is_fault few failed_in failed_out is line =
-    rw is (lines-stopped never one party lines input output errors fault stopped is_fault few
-    (λ same. failed_in (ap Err same)) (λ same. failed_out (ap Err same)) line)
+pub run-ended : {T : Type 0} (duty : Duty) → HasOneReply duty → (input output errors : Stream) (result : Result T ProveFault)
+    → EndsAs duty input output result → Says errors (end_line duty.kind result) → Runs duty input output errors (end_status result)
+run-ended duty one input output errors (Ok value) ends line = run-done duty one input output errors ends.done ends.takes line
+run-ended duty one input output errors (Err fault) ends line =
+    run-stopped duty one input output errors fault ends.stopped ends.refused (λ is. ends.read (ap Err is)) (λ is. ends.write (ap Err is)) ends.takes line
 
--- no memory for the words: nothing was read or written
-pub lines-unread : (party : Option ℕ) (lines : Setting → List (List ℕ) → List ℕ) (left taken : Option (List ℕ)) (reads writes : ℕ) (errors : Stream)
-    → RunsLines party lines (stream left left reads reads) (stream taken taken writes writes) errors 3
-lines-unread party lines left taken reads writes errors =
-    lines-memory party lines (stream left left reads reads) (stream taken taken writes writes) errors
-    (record { bytes = []; read = Consumes-nil left; written = inl (Keeps-refl taken) }) (inl (takes-none (front_size party) left))
+-- the same, where the end and the status are given by equations
+pub run-by : {T : Type 0} (duty : Duty) → HasOneReply duty → (input output errors : Stream) (result : Result T ProveFault) (status : ℕ)
+    → EndsAs duty input output result → status ≡ end_status result → Says errors (end_line duty.kind result) → Runs duty input output errors status
+run-by duty one input output errors result status ends is line = rw is (run-ended duty one input output errors result ends line)
 
--- the lines of a party that has another name
-pub lines-for : (party other : ℕ) (lines : ℕ → Setting → List (List ℕ) → List ℕ) (input output errors : Stream) (status : ℕ) → party ≡ other
-    → RunsLines (Some party) (lines party) input output errors status → RunsLines (Some other) (lines other) input output errors status
-lines-for party other lines input output errors status same runs =
-    subst (λ (n : ℕ). RunsLines (Some n) (lines n) input output errors status) same runs
-
--- ---- `lengths`
-
--- the text is the front of the bytes that were left
-text-told : (left left' : Option (List ℕ)) (text bytes : List ℕ) → left ≡ Some bytes → ReadsText left left' text → take 65537 bytes ≡ text
-text-told left left' text bytes is reads = sym (told left bytes (λ b. text ≡ take 65537 b) is reads.front)
-
-pub lengths-done : NeverBoth → (input output errors : Stream) → WritesLengths input.old input.new output.old output.new → TakesFew input.old input.new
-    → RunsLengths input output errors 0
-lengths-done never input output errors done few = record {
-  known = search rules;
-  done = λ _. done;
-  stopped = λ is. absurd (omega arith);
-  kept = λ other _. absurd (other refl);
-  refused = λ is. absurd (omega arith);
-  few = few;
-  complete = λ bytes is quiet_in quiet_out params circuit loaded. inr refl;
-  refuses = λ bytes is quiet_in quiet_out fault refused.
-      let reads = done.read in
-      let same = text-told input.old input.new reads.text bytes is reads.read in
-      absurd (never reads.text done.params done.circuit fault reads.loaded (subst (λ (t : List ℕ). IsCircuitFault t fault) same refused));
-}
-
--- a circuit that is refused
-lengths-refused : NeverBoth → (input output errors : Stream) (fault : CircuitFault) → RefusesText input.old input.new output.old output.new fault
-    → TakesFew input.old input.new → (IsQuiet errors → Appends errors.old errors.new (lengths_line (lengths.Circuit fault))) → RunsLengths input output errors 7
-lengths-refused never input output errors fault refused few line = record {
-  known = search rules;
-  done = λ is. absurd (omega arith);
-  stopped = λ is. absurd (omega arith);
-  kept = λ _ _. refused.kept;
-  refused = λ is. (fault, refused, line);
-  few = few;
-  complete = λ bytes is quiet_in quiet_out params circuit loaded.
-      let reads = refused.read in
-      let same = text-told input.old input.new reads.text bytes is reads.read in
-      absurd (never reads.text params circuit fault (subst (λ (t : List ℕ). IsLoaded t params circuit) same loaded) reads.refused);
-  refuses = λ bytes is quiet_in quiet_out other known. inr refl;
-}
-
--- an end for want of memory
-lengths-memory : (input output errors : Stream) → Keeps output.old output.new → TakesFew input.old input.new → RunsLengths input output errors 3
-lengths-memory input output errors kept few = record {
-  known = search rules;
-  done = λ is. absurd (omega arith);
-  stopped = λ is. absurd (omega arith);
-  kept = λ _ _. kept;
-  refused = λ is. absurd (omega arith);
-  few = few;
-  complete = λ bytes is quiet_in quiet_out params circuit loaded. inl refl;
-  refuses = λ bytes is quiet_in quiet_out fault refused. inl refl;
-}
-
--- an end for a failed read
-lengths-read : (input output errors : Stream) → Keeps output.old output.new → TakesFew input.old input.new → Failed input → RunsLengths input output errors 4
-lengths-read input output errors kept few failed = record {
-  known = search rules;
-  done = λ is. absurd (omega arith);
-  stopped = λ is. absurd (omega arith);
-  kept = λ _ _. kept;
-  refused = λ is. absurd (omega arith);
-  few = few;
-  complete = λ bytes is quiet_in quiet_out params circuit loaded. absurd (quiet_in failed);
-  refuses = λ bytes is quiet_in quiet_out fault refused. absurd (quiet_in failed);
-}
-
--- an end for a failed write
-lengths-write : (input output errors : Stream) → StopsInLengths input.old input.new output.old output.new → TakesFew input.old input.new → Failed output
-    → RunsLengths input output errors 5
-lengths-write input output errors stopped few failed = record {
-  known = search rules;
-  done = λ is. absurd (omega arith);
-  stopped = λ _. stopped;
-  kept = λ _ other. absurd (other refl);
-  refused = λ is. absurd (omega arith);
-  few = few;
-  complete = λ bytes is quiet_in quiet_out params circuit loaded. absurd (quiet_out failed);
-  refuses = λ bytes is quiet_in quiet_out fault refused. absurd (quiet_out failed);
-}
-
-pub lengths-stopped : NeverBoth → (input output errors : Stream) (fault : LengthsFault)
-    → ((why : CircuitFault) → fault ≡ lengths.Circuit why → RefusesText input.old input.new output.old output.new why)
-    → (fault ≡ lengths.Write → StopsInLengths input.old input.new output.old output.new)
-    → ((fault ≡ lengths.Memory) ⊎ (fault ≡ lengths.Read) → Keeps output.old output.new)
-    → (fault ≡ lengths.Read → Failed input) → (fault ≡ lengths.Write → Failed output) → TakesFew input.old input.new
-    → (IsQuiet errors → Appends errors.old errors.new (lengths_line fault)) → RunsLengths input output errors (lengths_status fault)
-lengths-stopped never input output errors lengths.Memory refused stopped kept failed_in failed_out few line =
-    lengths-memory input output errors (kept (inl refl)) few
-lengths-stopped never input output errors lengths.Read refused stopped kept failed_in failed_out few line =
-    lengths-read input output errors (kept (inr refl)) few (failed_in refl)
-lengths-stopped never input output errors lengths.Write refused stopped kept failed_in failed_out few line =
-    lengths-write input output errors (stopped refl) few (failed_out refl)
-lengths-stopped never input output errors (lengths.Circuit why) refused stopped kept failed_in failed_out few line =
-    lengths-refused never input output errors why (refused why refl) few line
-
--- no memory for the words: nothing was read or written
-pub lengths-unread : (left taken : Option (List ℕ)) (reads writes : ℕ) (errors : Stream)
-    → RunsLengths (stream left left reads reads) (stream taken taken writes writes) errors 3
-lengths-unread left taken reads writes errors =
-    let none : 0 ≤ 65537 = omega arith in
-    lengths-memory (stream left left reads reads) (stream taken taken writes writes) errors (Keeps-refl taken)
-    (record { bytes = []; few = none; gone = Consumes-nil left })
+pub run-by_file : {T : Type 0} (duty : Duty) → HasOneReply duty → (input output errors : Stream) (answer : Result T EngineFault) (result : Result T ProveFault) (status : ℕ)
+    → EndsAs duty input output (by_file answer) → result ≡ by_file answer → status ≡ end_status result → Says errors (end_line duty.kind result)
+    → Runs duty input output errors status
+run-by_file {T = T} duty one input output errors answer result status ends same is line =
+    run-by duty one input output errors result status (subst (λ (r : Result T ProveFault). EndsAs duty input output r) (sym same) ends) is line

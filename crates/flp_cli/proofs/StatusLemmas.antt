@@ -1,10 +1,10 @@
--- Which fault a status came from, and which status the bytes of the input decide.
-use Rattle.std.proofs.Common.{◌≡◌, ℕ, ◌++◌, Option, Some, None, List, [], ◌∷◌, refl, sym, ap, subst, ◌∙◌, inl, inr, ◌⊎◌, arith, rules, append-nil}
-use Rattle.std.specs.Prelude.{IfSome, IsTrue}
+-- Which status a fault has, and what is known of bytes that were read to their end.
+use Rattle.std.proofs.Common.{◌≡◌, ℕ, ◌++◌, Option, Some, None, List, [], refl, sym, ap, subst, ◌∙◌, inl, inr, ◌⊎◌, append-nil}
+use Rattle.std.specs.Prelude.{IfSome}
 use Rattle.std.specs.Io.KnownBytes.{Appends, Consumes, IsAtEnd, Keeps}
 use Rattle.flp_report.specs.declared.fault.BatchFault.{BatchFault}
 use Rattle.flp_report.specs.declared.fault.BatchFault.TheVariants as file
-use Rattle.flp_cli.specs.Answers.{is_among, file_status}
+use Rattle.flp_cli.specs.Answers.{file_status}
 
 -- a file's fault has status 6 or 7
 pub file-status : (f : BatchFault) → (file_status f ≡ 6) ⊎ (file_status f ≡ 7)
@@ -19,6 +19,9 @@ file-status (file.Truncated have need) = inl refl
 file-status file.Trailing = inl refl
 file-status (file.Word place word) = inl refl
 file-status (file.Party shares) = inl refl
+file-status (file.Buckets buckets) = inl refl
+file-status (file.Width width) = inl refl
+file-status (file.Bucket place bucket) = inl refl
 
 -- where the whole input was read, the bytes that were read are all of it
 pub whole-read : (left left' : Option (List ℕ)) (bytes read : List ℕ) → left ≡ Some bytes → Consumes left left' read → IsAtEnd left' → bytes ≡ read

@@ -1,9 +1,13 @@
 -- What the program does, from its answers up to a run of each command.
 -- statuses and lines
 pub mod Answers
--- what a run of `verify` wrote, where the policies allow it
-pub mod Reply
 -- an input or an output over a run
 pub mod Stream
--- a run of each command
+-- a run, whichever command it is of
 pub mod Runs
+-- the end of a command's call
+pub mod Ends
+-- each command
+pub mod Commands
+-- the laws of what is written
+pub mod Headline

@@ -1,112 +1,68 @@
--- What a run does, command by command: the text that it writes, and the causes of its status. What
--- holds of every run stands on `run` itself.
-use Rattle.std.specs.Prelude.{◌≡◌, ◌≢◌, ◌⊎◌, ℕ, Bool, List, [], ◌∷◌, take, Option, None, Some, IsTrue, IfSome}
-use Rattle.std.specs.Io.KnownBytes.{Keeps}
-use Rattle.flp_syntax.specs.declared.syntax.Params.{Params}
-use Rattle.flp_syntax.specs.Tree.{Program}
-use Rattle.flp_load.specs.declared.fault.CircuitFault.{CircuitFault}
-use Rattle.flp_load.specs.Loaded.{IsLoaded}
-use Rattle.flp_load.specs.Fault.{IsCircuitFault}
-use Rattle.flp_policy.specs.Policy.{Counts}
-use Rattle.flp_batch.specs.declared.fault.EngineFault.{EngineFault}
-use Rattle.flp_batch.specs.Setting.{Setting}
-use Rattle.flp_batch.specs.File.{IsBatch, IsFault}
-use Rattle.flp_batch.specs.Batch.{TakesFew as TakesFewOfBatch}
-use Rattle.flp_batch.specs.Reply.{WritesText, StopsEarly}
-use Rattle.flp_verify.specs.Text.{lines_by}
+-- What a run of a command does, whichever it is. From the reply to the bytes of a whole input up to the run.
+use Rattle.std.specs.Prelude.{◌≡◌, ◌≢◌, ◌⊎◌, ℕ, List, ◌∷◌, Option, Some, IsTrue, IfSome}
+use Rattle.std.specs.Io.KnownBytes.{Consumes, Appends, IsAtEnd}
+use Rattle.flp_io.specs.Writes.{TakesPrefix}
+use Rattle.flp_lines.specs.declared.fault.FileKind.{FileKind}
 use Rattle.flp_jobs.specs.declared.fault.ProveFault.{ProveFault}
-use Rattle.flp_jobs.specs.Setting.{JobSetting}
-use Rattle.flp_jobs.specs.Reply.{IsProvable, IsRefusal, WritesBatch, StopsInBatch}
-use Rattle.flp_jobs.specs.Reply.{TakesFew as TakesFewOfJobs}
-use Rattle.flp_lines.specs.Circuit.{circuit_line}
-use Rattle.flp_lengths.specs.Reading.{TakesFew}
-use Rattle.flp_lengths.specs.Reply.{WritesLengths, StopsInLengths, RefusesText}
-use Rattle.flp_cli.specs.Answers.{is_among, batch_status, engine_line, prove_status, prove_line}
-use Rattle.flp_cli.specs.Reply.{Verifies, StopsLate}
-use Rattle.flp_cli.specs.Stream.{Stream, IsQuiet, Says}
+use Rattle.flp_cli.specs.Answers.{IsRefusalStatus, is_one_of, status_line, failure_line, status_of}
+use Rattle.flp_cli.specs.Stream.{Stream, Failed, IsQuiet, Says}
 
--- the file is refused by its first fault, which the status and the line tell
-pub record Refuses (party : Option ℕ) (input errors : Stream) (status : ℕ) : Type 0 where
-  pub fault : EngineFault
-  pub is : IfSome input.old (λ bytes. IsFault party bytes fault)
-  pub status_is : status ≡ batch_status fault
-  pub says : Says errors (engine_line fault)
+-- what a command makes of an input: a text, or it refuses it
+pub data Reply : Type 0 where
+  Done : (text : List ℕ) → Reply
+  Refused : (fault : ProveFault) → Reply
 
--- a run of `verify`; the policies are given by what each would say after further verdicts
-pub record RunsVerify (would : Counts → List Bool) (input output errors : Stream) (status : ℕ) : Type 0 where
-  pub known : IsTrue (is_among status (0 ∷ 3 ∷ 4 ∷ 5 ∷ 6 ∷ 7 ∷ []))
-  -- the text, and that all was read
-  pub done : status ≡ 0 → Verifies input.old input.new output.old output.new would
-  -- what was written where the run ended earlier: a prefix of the lines, or later one of the text
-  pub stopped : status ≢ 0 → StopsEarly None lines_by input.old input.new output.old output.new
-      ⊎ ((status ≡ 5) × StopsLate input.old input.new output.old output.new would)
-  -- the input is no batch, or its text no circuit's
-  pub refused : (status ≡ 6) ⊎ (status ≡ 7) → Refuses None input errors status
-  -- no more is asked for than the head's numbers give, and one byte to see the end
-  pub few : TakesFewOfBatch None input.old input.new
-  -- where nothing failed, the bytes of the input alone decide the status, but for want of memory
-  pub complete : (bytes : List ℕ) → input.old ≡ Some bytes → IsQuiet input → IsQuiet output
-      → (params : Option Params) (setting : Setting) → IsBatch None bytes params setting → (status ≡ 3) ⊎ (status ≡ 0)
-  pub refuses : (bytes : List ℕ) → input.old ≡ Some bytes → IsQuiet input → IsQuiet output
-      → (fault : EngineFault) → IsFault None bytes fault → (status ≡ 3) ⊎ (status ≡ batch_status fault)
+abbrev pub reply_status : Reply → ℕ
+reply_status (Done text) = 0
+reply_status (Refused fault) = status_of fault
 
--- a run of a command that writes lines of the records of a batch, and nothing behind them
-pub record RunsLines (party : Option ℕ) (lines : Setting → List (List ℕ) → List ℕ) (input output errors : Stream) (status : ℕ) : Type 0 where
-  pub known : IsTrue (is_among status (0 ∷ 3 ∷ 4 ∷ 5 ∷ 6 ∷ 7 ∷ []))
-  -- the lines, and that all was read
-  pub done : status ≡ 0 → WritesText party lines input.old input.new output.old output.new
-  -- what was written where the run ended earlier: a prefix of the lines
-  pub stopped : status ≢ 0 → StopsEarly party lines input.old input.new output.old output.new
-  -- the input is no batch, or its text no circuit's
-  pub refused : (status ≡ 6) ⊎ (status ≡ 7) → Refuses party input errors status
-  -- no more is asked for than the head's numbers give, and one byte to see the end
-  pub few : TakesFewOfBatch party input.old input.new
-  -- where nothing failed, the bytes of the input alone decide the status, but for want of memory
-  pub complete : (bytes : List ℕ) → input.old ≡ Some bytes → IsQuiet input → IsQuiet output
-      → (params : Option Params) (setting : Setting) → IsBatch party bytes params setting → (status ≡ 3) ⊎ (status ≡ 0)
-  pub refuses : (bytes : List ℕ) → input.old ≡ Some bytes → IsQuiet input → IsQuiet output
-      → (fault : EngineFault) → IsFault party bytes fault → (status ≡ 3) ⊎ (status ≡ batch_status fault)
+-- what a command is to do
+pub record Duty : Type 1 where
+  -- what it reads
+  pub kind : FileKind
+  -- the statuses of its refusals
+  pub refusals : List ℕ
+  -- its reply to the bytes of a whole input
+  pub replies : List ℕ → Reply → Type 0
+  -- what it has written where it ends with a status before it knows its reply, or is about to refuse
+  pub early : (status : ℕ) → (input output : Stream) → Type 0
+  -- how much it reads
+  pub takes : (left left' : Option (List ℕ)) → Type 0
 
--- the file is refused by its first fault, or else by its least bad place, which the status and the line tell
-pub record RefusesJobs (input errors : Stream) (status : ℕ) : Type 0 where
+-- the input was read to its end, and the output grew by the text of the reply to its bytes: by all of it, or
+-- by a prefix
+pub record Writes (duty : Duty) (grows : (taken taken' : Option (List ℕ)) → List ℕ → Type 0) (input output : Stream) : Type 0 where
+  pub bytes : List ℕ
+  pub text : List ℕ
+  pub read : Consumes input.old input.new bytes
+  pub ended : IsAtEnd input.new
+  pub replied : duty.replies bytes (Done text)
+  pub written : grows output.old output.new text
+
+-- the reply to the bytes of the input is a refusal, which the status and the line tell
+pub record Refuses (duty : Duty) (input errors : Stream) (status : ℕ) : Type 0 where
   pub fault : ProveFault
-  pub is : IfSome input.old (λ bytes. IsRefusal bytes fault)
-  pub status_is : status ≡ prove_status fault
-  pub says : Says errors (prove_line fault)
+  pub replied : IfSome input.old (λ bytes. duty.replies bytes (Refused fault))
+  pub status_is : status ≡ status_of fault
+  pub says : Says errors (failure_line duty.kind fault)
 
--- a run of `prove`
-pub record RunsProve (input output errors : Stream) (status : ℕ) : Type 0 where
-  pub known : IsTrue (is_among status (0 ∷ 3 ∷ 4 ∷ 5 ∷ 6 ∷ 7 ∷ 8 ∷ []))
-  -- the batch, and that all was read
-  pub done : status ≡ 0 → WritesBatch input.old input.new output.old output.new
-  -- what was written where the run ended earlier: a prefix of the batch after a failed write, and else nothing
-  pub stopped : status ≡ 5 → StopsInBatch input.old input.new output.old output.new
-  pub kept : status ≢ 0 → status ≢ 5 → Keeps output.old output.new
-  -- the input is no job file, its text no circuit's, or a place is bad
-  pub refused : (status ≡ 6) ⊎ (status ≡ 7) ⊎ (status ≡ 8) → RefusesJobs input errors status
-  -- no more is asked for than the head's numbers give, and one byte to see the end
-  pub few : TakesFewOfJobs input.old input.new
+-- a run of a command that ended with this status
+pub record Runs (duty : Duty) (input output errors : Stream) (status : ℕ) : Type 0 where
+  pub known : IsTrue (is_one_of status (0 ∷ 3 ∷ 4 ∷ 5 ∷ duty.refusals))
+  -- done, refused, or a call failed
+  pub done : status ≡ 0 → Writes duty Appends input output
+  pub refused : IsRefusalStatus status → Refuses duty input errors status
+  pub read_fault : status ≡ 4 → Failed input
+  pub write_fault : status ≡ 5 → Failed output
+  pub line : (IsRefusalStatus status → ⊥) → Says errors (status_line status)
   -- where nothing failed, the bytes of the input alone decide the status, but for want of memory
-  pub complete : (bytes : List ℕ) → input.old ≡ Some bytes → IsQuiet input → IsQuiet output
-      → (setting : JobSetting) → IsProvable bytes setting → (status ≡ 3) ⊎ (status ≡ 0)
-  pub refuses : (bytes : List ℕ) → input.old ≡ Some bytes → IsQuiet input → IsQuiet output
-      → (fault : ProveFault) → IsRefusal bytes fault → (status ≡ 3) ⊎ (status ≡ prove_status fault)
+  pub decided : (bytes : List ℕ) → input.old ≡ Some bytes → IsQuiet input → IsQuiet output
+      → (reply : Reply) → duty.replies bytes reply → (status ≡ 3) ⊎ (status ≡ reply_status reply)
+  -- what was written where the run was not done
+  pub stopped : status ≢ 0 → duty.early status input output ⊎ ((status ≡ 5) × Writes duty TakesPrefix input output)
+  -- no more is asked for
+  pub takes : duty.takes input.old input.new
 
--- a run of `lengths`
-pub record RunsLengths (input output errors : Stream) (status : ℕ) : Type 0 where
-  pub known : IsTrue (is_among status (0 ∷ 3 ∷ 4 ∷ 5 ∷ 7 ∷ []))
-  -- the lines, and that all was read
-  pub done : status ≡ 0 → WritesLengths input.old input.new output.old output.new
-  -- what was written where the run ended earlier
-  pub stopped : status ≡ 5 → StopsInLengths input.old input.new output.old output.new
-  pub kept : status ≢ 0 → status ≢ 5 → Keeps output.old output.new
-  -- the circuit is refused, and the line tells its first fault
-  pub refused : status ≡ 7 → (fault : CircuitFault) × RefusesText input.old input.new output.old output.new fault
-      × Says errors (circuit_line fault)
-  -- at most 65,537 bytes are asked for
-  pub few : TakesFew input.old input.new
-  -- where nothing failed, these bytes alone decide the status, but for want of memory
-  pub complete : (bytes : List ℕ) → input.old ≡ Some bytes → IsQuiet input → IsQuiet output
-      → (params : Option Params) (circuit : Program) → IsLoaded (take 65537 bytes) params circuit → (status ≡ 3) ⊎ (status ≡ 0)
-  pub refuses : (bytes : List ℕ) → input.old ≡ Some bytes → IsQuiet input → IsQuiet output
-      → (fault : CircuitFault) → IsCircuitFault (take 65537 bytes) fault → (status ≡ 3) ⊎ (status ≡ 7)
+-- words that name no command, or no memory for the words
+abbrev pub Declines : (errors : Stream) → (usage memory : List ℕ) → ℕ → Type 0
+Declines errors usage memory status = ((status ≡ 2) × Says errors usage) ⊎ ((status ≡ 3) × Says errors memory)

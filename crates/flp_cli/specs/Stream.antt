@@ -10,8 +10,10 @@ pub record Stream : Type 0 where
   pub faults : ℕ
   pub faults_now : ℕ
 
-abbrev pub stream : Option (List ℕ) → Option (List ℕ) → ℕ → ℕ → Stream
-stream old new faults faults_now = record { old = old; new = new; faults = faults; faults_now = faults_now }
+-- what a source or a sink tells over a run, by the bytes and the count that it tells at a time
+abbrev pub over : {A : Type 0} → (A → Option (List ℕ)) → (A → ℕ) → A → A → Stream
+over bytes faults before after =
+    record { old = bytes before; new = bytes after; faults = faults before; faults_now = faults after }
 
 -- it failed in the run
 abbrev pub Failed : Stream → Type 0

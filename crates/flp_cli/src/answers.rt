@@ -1,13 +1,13 @@
 //! The exit statuses and the lines on the error output.
-ghost use Rattle.std.specs.Prelude.{◌≡◌, OnOk};
-ghost use Rattle.std.specs.Io.KnownBytes.{Appends};
-ghost use Rattle.flp_io.specs.Faults.{HasCause};
-ghost use Rattle.flp_cli.specs.Answers.{file_status, batch_status, engine_line, place_text, place_beginning, place_line, prove_status, prove_line, lengths_status, lengths_line, memory_line, usage_line};
+ghost use Rattle.std.specs.Prelude.{◌≡◌, ◌≤◌, ◌++◌, if◌then◌else◌, length};
+ghost use Rattle.flp_io.specs.Writes.{WritesTo};
+ghost use Rattle.flp_lines.specs.Fault.{memory_line};
+ghost use Rattle.flp_cli.specs.Answers.{file_status, engine_status, status_of, place_text, place_line, failure_line, usage_line};
+ghost use Rattle.flp_cli.specs.Stream.{over, Says};
 
 use flp_io::{Failed, Sink, put};
 use flp_jobs::{PlaceFault, ProveFault};
-use flp_lengths::LengthsFault;
-use flp_lines::{put_batch_fault, put_circuit_fault, put_job_fault, put_numbered, put_paired};
+use flp_lines::{FileKind, Line, put_file_fault, put_memory};
 use flp_report::BatchFault;
 use flp_verify::EngineFault;
 
@@ -21,9 +21,9 @@ fn file_status(fault: BatchFault) -> u8
     }
 }
 
-/// The exit status of a fault of a command on a batch.
-pub fn batch_status(fault: EngineFault) -> u8
-    ensures { result ≡ batch_status fault }
+/// The exit status of a fault that every command may have.
+fn engine_status(fault: EngineFault) -> u8
+    ensures { result ≡ engine_status fault }
 {
     match fault {
         EngineFault::Memory => 3,
@@ -34,128 +34,72 @@ pub fn batch_status(fault: EngineFault) -> u8
     }
 }
 
-/// Writes the line of a fault of a command on a batch. It takes no memory.
-pub fn put_engine_fault<E: Sink>(errors: &mut E, fault: EngineFault) -> Result<(), Failed>
-    ensures bytes { OnOk result (Appends (E.taken errors.old) (E.taken errors.new) (engine_line fault)) }
-    ensures cause { HasCause (E.faults errors.old) (E.faults errors.new) result }
+/// The exit status of a fault of a command.
+pub fn status_of(fault: ProveFault) -> u8
+    ensures { result ≡ status_of fault }
 {
     match fault {
-        EngineFault::Memory => put(errors, b"flp: no memory\n"),
-        EngineFault::Read => put(errors, b"flp: read fault\n"),
-        EngineFault::Write => put(errors, b"flp: write fault\n"),
-        EngineFault::Batch(fault) => put_batch_fault(errors, fault),
-        EngineFault::Circuit(fault) => put_circuit_fault(errors, fault),
-    }
-}
-
-/// The exit status of a fault of `prove`.
-pub fn prove_status(fault: ProveFault) -> u8
-    ensures { result ≡ prove_status fault }
-{
-    match fault {
-        ProveFault::Memory => 3,
-        ProveFault::Read => 4,
-        ProveFault::Write => 5,
-        ProveFault::File(fault) => file_status(fault),
-        ProveFault::Circuit(_) => 7,
+        ProveFault::File(fault) => engine_status(fault),
         ProveFault::Place(_, _) => 8,
     }
 }
 
-/// Writes the line of a fault of `prove`. It takes no memory.
-pub fn put_prove_fault<E: Sink>(errors: &mut E, fault: ProveFault) -> Result<(), Failed>
-    ensures bytes { OnOk result (Appends (E.taken errors.old) (E.taken errors.new) (prove_line fault)) }
-    ensures cause { HasCause (E.faults errors.old) (E.faults errors.new) result }
-{
-    match fault {
-        ProveFault::Memory => put_memory(errors),
-        ProveFault::Read => put(errors, b"flp: read fault\n"),
-        ProveFault::Write => put(errors, b"flp: write fault\n"),
-        ProveFault::File(fault) => put_job_fault(errors, fault),
-        ProveFault::Circuit(fault) => put_circuit_fault(errors, fault),
-        ProveFault::Place(place, fault) => put_place_fault(errors, u64::from(place), fault),
-    }
-}
-
-/// The exit status of a fault of `lengths`.
-pub fn lengths_status(fault: LengthsFault) -> u8
-    ensures { result ≡ lengths_status fault }
-{
-    match fault {
-        LengthsFault::Memory => 3,
-        LengthsFault::Read => 4,
-        LengthsFault::Write => 5,
-        LengthsFault::Circuit(_) => 7,
-    }
-}
-
-/// Writes the line of a fault of `lengths`. It takes no memory.
-pub fn put_lengths_fault<E: Sink>(errors: &mut E, fault: LengthsFault) -> Result<(), Failed>
-    ensures bytes { OnOk result (Appends (E.taken errors.old) (E.taken errors.new) (lengths_line fault)) }
-    ensures cause { HasCause (E.faults errors.old) (E.faults errors.new) result }
-{
-    match fault {
-        LengthsFault::Memory => put_memory(errors),
-        LengthsFault::Read => put(errors, b"flp: read fault\n"),
-        LengthsFault::Write => put(errors, b"flp: write fault\n"),
-        LengthsFault::Circuit(fault) => put_circuit_fault(errors, fault),
-    }
-}
-
-/// Writes the words of a bad place.
-#[tactic(auto, using(flp_io::proofs::WriteLemmas::writes_join))]
-fn put_place_text<E: Sink>(errors: &mut E, fault: PlaceFault) -> Result<(), Failed>
-    ensures bytes { OnOk result (Appends (E.taken errors.old) (E.taken errors.new) (place_text fault)) }
-    ensures cause { HasCause (E.faults errors.old) (E.faults errors.new) result }
+/// Appends the words of a bad place.
+fn push_place_text(line: &mut Line, fault: PlaceFault)
+    requires { length line.old ≤ 34 }
+    ensures text { line.new ≡ line.old ++ place_text fault }
+    ensures size { length line.new ≤ 95 }
 {
     match fault {
         PlaceFault::Range { number, value } => {
-            put_paired(errors, b"range ", u64::from(number), value)
+            line.push_paired(b"range ", u64::from(number), value)
         }
-        PlaceFault::Weight(count) => put_numbered(errors, b"weight ", count),
+        PlaceFault::Weight(count) => line.push_numbered(b"weight ", count),
         PlaceFault::Check { check, proof } => {
-            put_numbered(errors, b"check ", u64::from(check))?;
-            put_numbered(errors, b" of proof ", u64::from(proof))
+            line.push_numbered(b"check ", u64::from(check));
+            line.push_numbered(b" of proof ", u64::from(proof));
         }
     }
 }
 
-/// Writes how the line of a bad place begins.
-#[tactic(auto, using(flp_io::proofs::WriteLemmas::writes_join))]
-fn put_place_beginning<E: Sink>(errors: &mut E, place: u64) -> Result<(), Failed>
-    ensures bytes { OnOk result (Appends (E.taken errors.old) (E.taken errors.new) (place_beginning place)) }
-    ensures cause { HasCause (E.faults errors.old) (E.faults errors.new) result }
+/// The line of a bad place.
+fn place_line(place: u32, fault: PlaceFault) -> Line
+    ensures { result ≡ place_line place fault }
 {
-    put_numbered(errors, b"flp: place ", place)?;
-    put(errors, b": ")
+    let mut line = Line::new();
+    line.push_numbered(b"flp: place ", u64::from(place));
+    line.push(b": ");
+    push_place_text(&mut line, fault);
+    line.push(b"\n");
+    line
 }
 
-/// Writes the line of a bad place. It takes no memory.
-#[tactic(auto, using(flp_io::proofs::WriteLemmas::writes_join))]
-fn put_place_fault<E: Sink>(errors: &mut E, place: u64, fault: PlaceFault) -> Result<(), Failed>
-    ensures bytes { OnOk result (Appends (E.taken errors.old) (E.taken errors.new) (place_line place fault)) }
-    ensures cause { HasCause (E.faults errors.old) (E.faults errors.new) result }
+/// Writes the line of a fault of a command that reads a file of this kind.
+pub fn put_fault<E: Sink>(errors: &mut E, kind: FileKind, fault: ProveFault) -> Result<(), Failed>
+    requires ready { E.ready errors.old }
+    ensures { WritesTo E.taken E.faults E.spare E.ready errors.old errors.new (failure_line kind fault) result }
 {
-    put_place_beginning(errors, place)?;
-    put_place_text(errors, fault)?;
-    put(errors, b"\n")
+    match fault {
+        ProveFault::File(fault) => put_file_fault(errors, kind, fault),
+        ProveFault::Place(place, fault) => put(errors, place_line(place, fault).as_slice()),
+    }
 }
 
-/// Writes the line of want of memory. It takes none.
-pub fn put_memory<E: Sink>(errors: &mut E) -> Result<(), Failed>
-    ensures bytes { OnOk result (Appends (E.taken errors.old) (E.taken errors.new) memory_line) }
-    ensures cause { HasCause (E.faults errors.old) (E.faults errors.new) result }
+/// Says that there was no memory for the words, or else that they cannot be had or name no command,
+/// and gives the exit status.
+#[tactic(auto, using(crate::proofs::SaysLemmas::says_written))]
+pub fn without_words<E: Sink>(errors: &mut E, memory: bool) -> u8
+    requires ready { E.ready errors.old }
+    ensures status { result ≡ (if memory then 3 else 2) }
+    ensures says { Says (over E.taken E.faults errors.old errors.new) (if memory then memory_line else usage_line) }
 {
-    put(errors, b"flp: no memory\n")
-}
-
-/// Writes the line of words that are no job. It takes no memory.
-pub fn put_usage<E: Sink>(errors: &mut E) -> Result<(), Failed>
-    ensures bytes { OnOk result (Appends (E.taken errors.old) (E.taken errors.new) usage_line) }
-    ensures cause { HasCause (E.faults errors.old) (E.faults errors.new) result }
-{
-    put(
+    if memory {
+        let _said = put_memory(errors);
+        return 3;
+    }
+    let _said = put(
         errors,
         b"flp: usage: flp verify, prove, lengths, prep, explain or trial\n",
-    )
+    );
+    2
 }

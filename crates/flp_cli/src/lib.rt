@@ -1,26 +1,27 @@
 //! The program `flp` as one call over a source and two sinks.
 //!
-//! [`run`] reads the words of the command line, does the job that they name, and answers the exit
-//! status. Its contract says what each command does, as one record of named facts a command
-//! (`specs/Runs.antt`): which text it writes, by the bytes that it reads, and when each status
-//! comes.
+//! [`run`] reads the words of the command line, does the command that they name, and answers the exit
+//! status. Its contract is one record of named facts for all commands (`Runs` in `specs/Runs.antt`)
+//! over a table of what each replies to the bytes that it reads (`specs/Commands.antt`), and the laws
+//! of what is written (`specs/Headline.antt`).
 //!
-//! `verify` reads a batch of reports on any circuit and writes one verdict a report, the count of
-//! accepted reports and their aggregate; its text is defined in `flp_verdict`, over the unshared
-//! values of the reports. `lengths` reads a circuit text and writes the lengths of its circuit; its
-//! text is defined in `flp_lengths`. `prep` reads a batch and writes the verifier words of one share;
-//! its text is defined in `flp_prep`.
+//! | command | reads | writes | its text is defined in |
+//! |---|---|---|---|
+//! | `verify` | a batch of reports on any circuit | a verdict a report, the count of accepted reports and their aggregate | `flp_verdict` |
+//! | `prove` | a job file | the batch that is made of it | `flp_jobs` |
+//! | `lengths` | a circuit text | the lengths of the circuit | `flp_lengths` |
+//! | `prep` | a batch | the verifier words of one share of each report | `flp_prep` |
+//! | `explain` | a batch | the query word that limits each proof | `flp_explain` |
+//!
+//! [`without_words`] is what a program does that cannot have its words.
 #![tactic(auto)]
 
 mod answers;
 mod commands;
-mod policy;
 mod program;
-#[cfg(test)]
-mod tests;
 
-pub use flp_policy::Verdict;
-pub use policy::Policy;
+pub use answers::without_words;
+pub use flp_policy::{Policy, Verdict};
 pub use program::run;
 
 /// The gate that each worker passes, which is that of the pool of workers.

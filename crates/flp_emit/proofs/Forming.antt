@@ -4,19 +4,19 @@ use Rattle.std.specs.Prelude.{slice_range}
 use Rattle.std.proofs.lemmas.List.{append-nil, drop-append-le, take-append-le, length-drop, drop_at, take_all}
 use Rattle.std.proofs.Math.ListN.{get_or-eq_default}
 use Rattle.std.proofs.lemmas.List.Elements.{All-append, All-nil, All-cons, All-weaker}
-use Rattle.flp_meaning.specs.Meaning.{Call, Reading, Run, plain, changed, signed}
+use Rattle.flp_meaning.specs.Meaning.{Call, Reading, Run, plain, map_run, value_with_sign}
 use Rattle.flp_forms.specs.declared.term.Term.{Term}
 use Rattle.flp_forms.specs.declared.term.Scale.{Scale}
 use Rattle.flp_forms.specs.declared.term.Source.{Source}
 use Rattle.flp_forms.specs.declared.term.Source.TheVariants.{Unit as ByUnit}
 use Rattle.flp_forms.specs.PublicValues.{publics}
 use Rattle.flp_forms.specs.StraightLine.{StraightLine, Grows}
-use Rattle.flp_forms.specs.LinearForms.{Share, scale_value, source_value, form_value, ScaleFits, SourceFits, TermFits}
+use Rattle.flp_forms.specs.LinearForms.{Share, scale_value, source_value, form_value, ScaleFits, SourceFits, TermFits, FormFits}
 use Rattle.flp_forms.proofs.LineLemmas.{grows_trans, length-grows}
 use Rattle.flp_forms.proofs.FormLemmas.{form_value-push, fits_more}
 use Rattle.flp_emit.specs.declared.code.CallForms.{CallForms}
 use Rattle.flp_emit.specs.declared.made.Made.{Made}
-use Rattle.flp_emit.specs.Code.{read_by, call_by, inputs_in, FormFits, CallFits}
+use Rattle.flp_emit.specs.Code.{read_by, call_by, inputs_in, CallFits}
 use Rattle.flp_emit.specs.Standing.{Makes}
 use Rattle.flp_emit.specs.Emitting.{Scales, ScalesRun, sign_factor, Extends, IsSound, Emitted, FormsFit}
 use Rattle.flp_emit.proofs.Adding.{extends_refl, extends_trans}
@@ -138,7 +138,7 @@ emitted_term meas made form scale source s w = record {
 pub emitted_public : {meas : ℕ} {old : Made} {mid line : StraightLine} {step : ℕ} {scale after : Scale} {form : List Term} {run : Reading → Run ℕ}
     → Makes old.steps mid step run → Scales mid line scale after (λ values. get_or values step 0)
     → Emitted meas scale old (record old { steps = line }) form (form ++ record { scale = after; source = ByUnit } ∷ [])
-    (λ joint share. changed (λ value. share.unit * value) (run (read_by joint share)))
+    (λ joint share. map_run (λ value. share.unit * value) (run (read_by joint share)))
 emitted_public {meas} {old} {mid} {line} {step} {scale} {after} {form} {run} made scaled =
     emitted_by scale after (grows_trans old.steps mid line made.grows scaled.grows)
     (λ joint share n later g.
@@ -151,7 +151,7 @@ emitted_public {meas} {old} {mid} {line} {step} {scale} {after} {form} {run} mad
 
 -- ---- coefficients that are passed down
 
-sign_times : (minus : Bool) (value : ℕ) → signed minus value ≡ sign_factor minus * value
+sign_times : (minus : Bool) (value : ℕ) → value_with_sign minus value ≡ sign_factor minus * value
 sign_times true value = refl
 sign_times false value = omega arith
 
@@ -159,7 +159,7 @@ sign_times false value = omega arith
 pub emitted_signed : {meas : ℕ} {old new : Made} {line : StraightLine} {scale after : Scale} {before form : List Term} {f : List ℕ → Share → Run ℕ} (minus : Bool)
     → Scales old.steps line scale after (λ values. sign_factor minus)
     → Emitted meas after (record old { steps = line }) new before form f
-    → Emitted meas scale old new before form (λ joint share. changed (signed minus) (f joint share))
+    → Emitted meas scale old new before form (λ joint share. map_run (value_with_sign minus) (f joint share))
 emitted_signed {meas} {old} {new} {line} {scale} {after} {before} {form} {f} minus scaled e =
     emitted_by scale after scaled.grows
     (λ joint share n later g.

@@ -1,21 +1,27 @@
 -- The lemmas of the compiler's core.
--- what is left of a list
-pub mod Rests
 -- values that are made of values
-pub mod Values
+mod Values
 -- sums and products as far as they have come
-pub mod Parts
+mod Parts
 -- coefficients
-pub mod Scaling
+mod Scaling
 -- runs that are emitted one after another
-pub mod Adding
+mod Adding
 -- what is emitted into a form
-pub mod Forming
+mod Forming
 -- forms that are listed
-pub mod Listing
+mod Listing
 -- runs of public expressions, and products with one shared factor
-pub mod PlainRuns
+mod PlainRuns
 -- marks of parts
-pub mod Marking
+mod Marking
+-- parts of lists from which a walk can go on
+mod Walking
 -- counts as far as they have come
-pub mod Counting
+mod Counting
+-- circuits whose loops are named by their depth: variables, terms, what fits, what they mean
+mod Naming
+mod NamedTerms
+mod NamedFits
+mod NamedMeaning
+mod NamedCode

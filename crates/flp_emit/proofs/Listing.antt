@@ -7,20 +7,20 @@ use Rattle.std.proofs.lemmas.List.FromFn.{length-range_with_len}
 use Rattle.std.proofs.lemmas.List.Elements.{All-append, All-nil, All-cons}
 use Rattle.flp_field.specs.Word.{modulus}
 use Rattle.flp_syntax.specs.Tree.{Program}
-use Rattle.flp_meaning.specs.Meaning.{Call, Run, Results, changed, called, join_results, no_results, one_check, one_out, performed, statements_of}
+use Rattle.flp_meaning.specs.Meaning.{Call, Run, Results, map_run, call_run, join_results, no_results, one_check, one_out, all_results, statements_of}
 use Rattle.flp_forms.specs.declared.term.Term.{Term}
 use Rattle.flp_forms.specs.declared.term.Scale.{Scale}
 use Rattle.flp_forms.specs.declared.term.Scale.TheVariants.{One}
 use Rattle.flp_forms.specs.declared.term.Source.TheVariants.{Answer}
 use Rattle.flp_forms.specs.PublicValues.{publics}
 use Rattle.flp_forms.specs.StraightLine.{StraightLine, Grows}
-use Rattle.flp_forms.specs.LinearForms.{Share, scale_value, form_value, ScaleFits, TermFits}
+use Rattle.flp_forms.specs.LinearForms.{Share, scale_value, form_value, ScaleFits, TermFits, FormFits}
 use Rattle.flp_forms.proofs.LineLemmas.{grows_refl}
 use Rattle.flp_forms.proofs.FormLemmas.{form_value-push}
 use Rattle.flp_emit.specs.declared.code.CallForms.{CallForms}
 use Rattle.flp_emit.specs.declared.made.Made.{Made}
 use Rattle.flp_emit.specs.declared.made.Done.{Done}
-use Rattle.flp_emit.specs.Code.{read_by, form_words, call_by, FormFits, CallFits, Tied}
+use Rattle.flp_emit.specs.Code.{read_by, form_words, call_by, CallFits, Tied}
 use Rattle.flp_emit.specs.Emitting.{Extends, AppendsCall, Emitted, Listed, Performed, FormsFit}
 use Rattle.flp_emit.proofs.Adding.{goes_on_refl, goes_on_back, extends_trans, calls_count}
 use Rattle.flp_emit.proofs.Scaling.{scale_later}
@@ -48,7 +48,7 @@ words_push values share forms form value e =
 -- one input
 pub listed_one : {meas : ℕ} {old new : Made} {inputs : List (List Term)} {form : List Term} {f : List ℕ → Share → Run ℕ}
     → Emitted meas One old new [] form f
-    → Listed meas old new inputs (inputs ++ form ∷ []) (λ joint share. changed (λ value. value % modulus ∷ []) (f joint share))
+    → Listed meas old new inputs (inputs ++ form ∷ []) (λ joint share. map_run (λ value. value % modulus ∷ []) (f joint share))
 listed_one {meas} {old} {new} {inputs} {form} {f} e = record {
   extends = e.extends;
   value =
@@ -126,7 +126,7 @@ new_call_fits {meas} {old} {mid} {new} {forms} {gadget} {number} {f} l a =
 -- a call of a gadget with its arguments as inputs, whose answer is added to a form
 pub emitted_call : (scale : Scale) {meas : ℕ} {old mid new : Made} {forms : List (List Term)} {form : List Term} {gadget number : ℕ} {f : List ℕ → Share → Run (List ℕ)}
     → Listed meas old mid [] forms f → AppendsCall mid new gadget forms number → ScaleFits (length old.steps.steps) scale
-    → Emitted meas scale old new form (form ++ record { scale = scale; source = Answer number } ∷ []) (λ joint share. called (read_by joint share) gadget (f joint share))
+    → Emitted meas scale old new form (form ++ record { scale = scale; source = Answer number } ∷ []) (λ joint share. call_run (read_by joint share) gadget (f joint share))
 emitted_call scale {meas} {old} {mid} {new} {forms} {form} {gadget} {number} {f} l a s = record {
   extends = extends_trans l.extends (appends_extends a);
   value =
@@ -171,7 +171,7 @@ emitted_call scale {meas} {old} {mid} {new} {forms} {form} {gadget} {number} {f}
 pub performed_check : {meas : ℕ} {old new : Made} {checks outs : List (List Term)} {form : List Term} {f : List ℕ → Share → Run ℕ}
     → Emitted meas One old new [] form f
     → Performed meas old new (record { checks = checks; outs = outs }) (record { checks = checks ++ form ∷ []; outs = outs })
-    (λ joint share. changed one_check (f joint share))
+    (λ joint share. map_run one_check (f joint share))
 performed_check {meas} {old} {new} {checks} {outs} {form} {f} e = record {
   extends = e.extends;
   value =
@@ -206,7 +206,7 @@ pub performed_out : {meas : ℕ} {old new : Made} {checks outs : List (List Term
     → Emitted meas One old new [] form f
     → ((joint : List ℕ) (share : Share) (n : ℕ) → (f joint share n).calls ≡ [])
     → Performed meas old new (record { checks = checks; outs = outs }) (record { checks = checks; outs = outs ++ form ∷ [] })
-    (λ joint share. changed one_out (f joint share))
+    (λ joint share. map_run one_out (f joint share))
 performed_out {meas} {old} {new} {checks} {outs} {form} {f} e silent = record {
   extends = e.extends;
   value =
@@ -243,10 +243,10 @@ no_call_there number call there = cc
 
 pub tied : (body : Program) (old new : Made) (done : Done) → old.calls.items ≡ [] → old.steps.joint ≡ body.joint
     → Performed body.meas old new (record { checks = []; outs = [] }) done
-    (λ joint share. performed (statements_of body.gadgets (read_by joint share) [] body.stmts))
+    (λ joint share. all_results (statements_of body.gadgets (read_by joint share) [] body.stmts))
     → Tied body (record { steps = new.steps; calls = new.calls.items; inputs = new.inputs; checks = done.checks; outs = done.outs })
 tied body old new done fresh joint p =
-    let run = λ (joint : List ℕ) (share : Share). performed (statements_of body.gadgets (read_by joint share) [] body.stmts) in
+    let run = λ (joint : List ℕ) (share : Share). all_results (statements_of body.gadgets (read_by joint share) [] body.stmts) in
     let fits =
     p.fits (length new.calls.items) (λ more. omega arith)
     (All-nil (FormFits (length old.steps.steps) body.meas (length new.calls.items)), All-nil (FormFits (length old.steps.steps) body.meas 0)) in

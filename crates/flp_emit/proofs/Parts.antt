@@ -1,9 +1,6 @@
 -- Sums and products of runs as far as they have come.
-use Rattle.std.proofs.Common.{ℕ, suc, ◌≡◌, ◌+◌, ◌-◌, ◌*◌, ◌<◌, ◌≤◌, Bool, true, false, ◌||◌, List, [], ◌∷◌, ◌++◌, length, get_or, refl, sym, ap, ap₂, ◌∙◌, Option, None, Some, add-zero, add-one, arith}
-use Rattle.flp_syntax.specs.Tree.{Tree, Trees, tree_on, Items, item_on}
-use Rattle.flp_syntax.specs.Sorts.{is_shared, has_shared, has_shared_item}
-use Rattle.flp_syntax.specs.Scope.{turns, numbers_from}
-use Rattle.flp_meaning.specs.Meaning.{Reading, Run, plain, then_run, changed}
+use Rattle.std.proofs.Common.{ℕ, ◌≡◌, ◌+◌, ◌*◌, List, ◌++◌, length, get_or, refl, sym, ap, ap₂, ◌∙◌, Option, None, Some, add-zero, arith}
+use Rattle.flp_meaning.specs.Meaning.{Reading, Run, plain, then_run, map_run}
 use Rattle.flp_forms.specs.PublicValues.{publics}
 use Rattle.flp_forms.specs.StraightLine.{StraightLine, Grows, StandsFor}
 use Rattle.flp_forms.proofs.LineLemmas.{grows_refl, grows_trans, public_at-grows}
@@ -77,7 +74,7 @@ makes_plain number made value same = record {
 -- a step of a run, and then one of a change of its value
 pub makes_changed : {old mid new : StraightLine} {one step : ℕ} {run : Reading → Run ℕ} (change : ℕ → ℕ)
     → Makes old mid one run → MakesValue mid new step (λ values. change (get_or values one 0))
-    → Makes old new step (λ reading. changed change (run reading))
+    → Makes old new step (λ reading. map_run change (run reading))
 makes_changed {old} {mid} {new} {one} {step} {run} change made value = record {
   grows = grows_trans old mid new made.grows value.grows;
   stands = record {
@@ -110,37 +107,3 @@ sums_regroup a b c = omega arith
 
 pub products_regroup : (a b c : ℕ) → a * (b * c) ≡ (a * b) * c
 products_regroup a b c = omega arith
-
--- no turn is left, and one is
-pub turns_none : (from to : ℕ) → to ≤ from → turns from to ≡ []
-turns_none from to h = let e : to - from ≡ 0 = omega arith in ap (numbers_from from) e
-
-pub turns_next : (from to : ℕ) → from < to → turns from to ≡ from ∷ turns (from + 1) to
-turns_next from to h =
-    let e : to - from ≡ suc (to - (from + 1)) = omega arith in
-    ap (numbers_from from) e ∙ ap (λ k. from ∷ numbers_from k (to - (from + 1))) (sym (add-one from))
-
-or_left : (a b : Bool) → a || b ≡ false → a ≡ false
-or_left false b h = refl
-or_left true b h = h
-
-or_right : (a b : Bool) → a || b ≡ false → b ≡ false
-or_right false b h = h
-or_right true b h = cc
-
--- what is public in a list of parts
-pub first_public : (x : Tree) (more : Trees) → has_shared (tree_on x more) ≡ false → is_shared x ≡ false
-first_public x more h = or_left (is_shared x) (has_shared more) h
-
-pub rest_public : (x : Tree) (more : Trees) → has_shared (tree_on x more) ≡ false → has_shared more ≡ false
-rest_public x more h = or_right (is_shared x) (has_shared more) h
-
-pub first_item_public : (minus : Bool) (x : Tree) (more : Items) → has_shared_item (item_on minus x more) ≡ false → is_shared x ≡ false
-first_item_public minus x more h = or_left (is_shared x) (has_shared_item more) h
-
-pub rest_items_public : (minus : Bool) (x : Tree) (more : Items) → has_shared_item (item_on minus x more) ≡ false → has_shared_item more ≡ false
-rest_items_public minus x more h = or_right (is_shared x) (has_shared_item more) h
-
--- behind a public factor a shared one is left
-pub rest_shared : (x : Tree) (more : Trees) → is_shared x ≡ false → has_shared (tree_on x more) ≡ true → has_shared more ≡ true
-rest_shared x more public h = sym (ap (λ b. b || has_shared more) public) ∙ h

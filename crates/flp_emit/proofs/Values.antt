@@ -2,7 +2,7 @@
 use Rattle.std.proofs.Common.{ℕ, ◌<◌, length, get_or, refl, sym, ap, ap₂, ◌∙◌, arith}
 use Rattle.flp_forms.specs.PublicValues.{public_at}
 use Rattle.flp_forms.specs.StraightLine.{StraightLine, Grows, StandsFor}
-use Rattle.flp_forms.proofs.LineLemmas.{grows_refl, grows_trans, length-grows, public_at-grows}
+use Rattle.flp_forms.proofs.LineLemmas.{grows_refl, grows_trans, length-grows, public_at-grows, stands_kept}
 use Rattle.flp_emit.specs.Standing.{MakesValue}
 
 -- a step that is there already
@@ -15,7 +15,7 @@ pub makes_number : (old new : StraightLine) (step number : ℕ) → Grows old ne
 makes_number old new step number g s = record {
   grows = g;
   within = s.within;
-  value = λ later h joint. public_at-grows new later step joint h s.within ∙ s.value joint;
+  value = λ later h joint. (stands_kept new later step _ h s).value joint;
 }
 
 -- a step made of one other
@@ -27,8 +27,7 @@ makes_of_one f old new step one within g s = record {
   within = s.within;
   value =
       λ later h joint.
-      public_at-grows new later step joint h s.within
-      ∙ s.value joint
+      (stands_kept new later step _ h s).value joint
       ∙ ap f (sym (public_at-grows old later one joint (grows_trans old new later g h) within));
 }
 
@@ -41,8 +40,7 @@ makes_of_two f old new step one two first second g s = record {
   within = s.within;
   value =
       λ later h joint.
-      public_at-grows new later step joint h s.within
-      ∙ s.value joint
+      (stands_kept new later step _ h s).value joint
       ∙ ap₂ f (sym (public_at-grows old later one joint (grows_trans old new later g h) first))
       (sym (public_at-grows old later two joint (grows_trans old new later g h) second));
 }

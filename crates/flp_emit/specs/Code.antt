@@ -4,16 +4,16 @@ use Rattle.std.specs.Prelude.{ℕ, ◌≡◌, ◌%◌, ◌≤◌, List, length, 
 use Rattle.flp_field.specs.Word.{modulus}
 use Rattle.flp_syntax.specs.Tree.{Program}
 use Rattle.flp_meaning.specs.Meaning.{Call, Reading}
-use Rattle.flp_meaning.specs.Circuit.{answered, circuit_of, checks_of, calls_of}
+use Rattle.flp_meaning.specs.Circuit.{with_answers, circuit_of, checks_of, calls_of}
 use Rattle.flp_forms.specs.declared.term.Term.{Term}
 use Rattle.flp_forms.specs.PublicValues.{publics}
-use Rattle.flp_forms.specs.LinearForms.{Share, form_value, TermFits}
+use Rattle.flp_forms.specs.LinearForms.{Share, form_value, FormFits}
 use Rattle.flp_emit.specs.declared.code.Code.{Code}
 use Rattle.flp_emit.specs.declared.code.CallForms.{CallForms}
 
 -- the reading under these joint words with the words, the answers and the unit of a share
 abbrev pub read_by : List ℕ → Share → Reading
-read_by joint share = answered share.meas joint share.unit share.answers
+read_by joint share = with_answers share.meas joint share.unit share.answers
 
 -- the values of forms, as words
 abbrev pub form_words : List ℕ → Share → List (List Term) → List ℕ
@@ -27,10 +27,6 @@ inputs_in inputs call = slice_range inputs call.first call.end
 abbrev pub call_by : List ℕ → Share → List (List Term) → CallForms → Call
 call_by values share inputs call =
     record { gadget = call.gadget; inputs = form_words values share (inputs_in inputs call) }
-
--- the form reads one of so many public values, words and answers
-abbrev pub FormFits : (publics meas answers : ℕ) → List Term → Type 0
-FormFits publics meas answers form = All (TermFits publics meas answers) form
 
 -- the forms of the call with this number are there, and read answers of earlier calls alone
 pub record CallFits (publics meas number : ℕ) (inputs : List (List Term)) (call : CallForms) : Type 0 where

@@ -10,11 +10,11 @@ use Rattle.flp_forms.specs.declared.term.Term.{Term}
 use Rattle.flp_forms.specs.declared.term.Scale.{Scale}
 use Rattle.flp_forms.specs.PublicValues.{publics}
 use Rattle.flp_forms.specs.StraightLine.{StraightLine, Grows}
-use Rattle.flp_forms.specs.LinearForms.{Share, scale_value, ScaleFits, form_value}
+use Rattle.flp_forms.specs.LinearForms.{Share, scale_value, ScaleFits, form_value, FormFits}
 use Rattle.flp_emit.specs.declared.code.CallForms.{CallForms}
 use Rattle.flp_emit.specs.declared.made.Made.{Made}
 use Rattle.flp_emit.specs.declared.made.Done.{Done}
-use Rattle.flp_emit.specs.Code.{form_words, call_by, FormFits, CallFits}
+use Rattle.flp_emit.specs.Code.{form_words, call_by, CallFits}
 
 -- ---- coefficients
 

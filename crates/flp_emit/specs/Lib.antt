@@ -4,8 +4,6 @@
 pub mod Fitting
 -- the code of a circuit
 pub mod Code
--- the loops round a place, as the program keeps them
-pub mod Scopes
 -- public values as they are made
 pub mod Standing
 -- how the code grows while parts of a circuit are emitted
@@ -14,3 +12,5 @@ pub mod Emitting
 pub mod Counts
 -- the sorts of the parts of a circuit
 pub mod Marks
+-- parts of a circuit from which a walk can go on
+pub mod Walking

@@ -1,14 +1,14 @@
 //! The values of indices.
 ghost use Rattle.std.specs.Prelude.{◌≡◌, ◌*◌, ◌<◌, ◌^◌, map};
 ghost use Rattle.flp_syntax.specs.Tree.{index_items, indices};
-ghost use Rattle.flp_syntax.specs.Scope.{index_value, sum_from, product_from};
+ghost use Rattle.flp_syntax.specs.Scope.{index_value, sum_from, product_from, next_front};
 ghost use Rattle.flp_syntax.specs.View.{index_of, index_item_of};
-ghost use Rattle.flp_emit.specs.Fitting.{IndexFits, SumFits, ProductFits};
-ghost use Rattle.flp_emit.specs.Scopes.{scope_of, moved, CanMove};
+ghost use Rattle.flp_syntax.specs.Fits.{CanMove, IndexFits, SumFits, ProductFits};
+ghost use Rattle.flp_syntax.specs.View.{scope_of};
 
-use crate::scope::{Bound, Turns, bound_value};
+use crate::scope::Turns;
 use flp_list::Bytes;
-use flp_syntax::{Idx, IdxItem};
+use flp_syntax::{Bound, Idx, IdxItem, bound_value};
 
 /// The turns of a loop with this variable and these bounds.
 pub(crate) fn turns_of<'a>(scope: &[Bound], name: &'a Bytes, from: &Idx, to: &Idx) -> Turns<'a>
@@ -49,7 +49,7 @@ fn sum_value(scope: &[Bound], items: &[IdxItem]) -> u32
     let mut sum = 0;
     for item in items {
         let value = index_value(scope, &item.idx);
-        sum = moved(sum, item.minus, value);
+        sum = next(sum, item.minus, value);
     }
     sum
 }
@@ -69,9 +69,9 @@ fn product_value(scope: &[Bound], factors: &[Idx]) -> u32
 }
 
 /// The sum and one more item, which is added or subtracted.
-fn moved(sum: u32, minus: bool, value: u32) -> u32
+fn next(sum: u32, minus: bool, value: u32) -> u32
     requires { CanMove minus sum value }
-    ensures { result ≡ moved minus sum value }
+    ensures { result ≡ next_front minus sum value }
 {
     if minus { sum - value } else { sum + value }
 }

@@ -3,7 +3,7 @@
 //! [`emit`] unrolls the loops of a circuit. Each public expression becomes a step of a straight line, each check, out
 //! and input of a call a linear form over the words of an encoding, the answers of earlier calls and the unit. Under
 //! all joint words and on every share the values of these forms are those that the circuit means when its calls are
-//! answered by a list (`specs/Code.antt`). Which circuits have code says `specs/Fitting.antt`.
+//! answered by a list (`specs/Code.antt`). `specs/Fitting.antt` says which circuits have code.
 //!
 //! Such code is an arithmetic circuit of affine gates and gadget calls, as in the chapter "Fully Linear Proofs" of the
 //! VDAF draft of the IETF, after Boneh et al., "Zero-Knowledge Proofs on Secret-Shared Data via Fully Linear PCPs",

@@ -13,8 +13,7 @@ ghost use Rattle.flp_emit.specs.declared.marks.Mark as mark;
 ghost use Rattle.flp_emit.specs.Marks.{marked, marks_inside, item_marks, factor_marks, marks_of_argument, argument_marks, marks_of, marks_of_statement, statement_marks, BeginWith};
 
 use crate::Memory;
-use crate::sorts::is_shared;
-use flp_syntax::{Arg, Expr, Item, Stmt};
+use flp_syntax::{Arg, Expr, Item, Stmt, is_shared};
 use std::alloc::Global;
 
 /// The mark of a part of a circuit: whether it is shared, and how many marks it has with the parts inside it.

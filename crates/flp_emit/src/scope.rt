@@ -1,19 +1,21 @@
-//! The loops round a place, and the gadgets, by their names.
+//! Where a walk through a circuit stands, the turns of a loop, and the gadget of a call.
 ghost use Rattle.std.specs.Prelude.{◌≡◌, ◌<◌, ◌^◌, map, length, IfOk};
 ghost use Rattle.std.specs.Option.{unwrap_or};
-ghost use Rattle.flp_syntax.specs.Scope.{bound_value, inside, gadget_number};
-ghost use Rattle.flp_syntax.specs.View.{declaration_of};
-ghost use Rattle.flp_emit.specs.Scopes.{scope_of};
+ghost use Rattle.flp_syntax.specs.Scope.{gadget_number, inside};
+ghost use Rattle.flp_syntax.specs.View.{declaration_of, scope_of};
 
 use crate::Memory;
-use flp_syntax::Decl;
+use crate::marks::Mark;
+use flp_syntax::{Body, Bound, Decl, gadget_number};
 use std::alloc::Global;
 
-/// A loop's variable and its value at this turn.
+/// Where a walk through a circuit stands: the circuit, the loops round the part, and the marks from the part on.
 #[derive(Clone, Copy)]
-pub(crate) struct Bound<'a> {
-    pub name: &'a [u8],
-    pub value: u32,
+pub(crate) struct Place<'a, 'b> {
+    pub alloc: Global,
+    pub body: &'b Body,
+    pub scope: &'b [Bound<'a>],
+    pub marks: &'b [Mark],
 }
 
 /// The turns of a loop: its variable's name, and its values, from `from` on up to `to`, which is none of them.
@@ -24,41 +26,28 @@ pub(crate) struct Turns<'a> {
     pub to: u32,
 }
 
-/// The value of a loop's variable; 0 where the name is none.
-pub(crate) fn bound_value(scope: &[Bound], name: &[u8]) -> u32
-    ensures { result ≡ bound_value (scope_of scope.now) name.now }
-{
-    for bound in scope {
-        if bound.name == name {
-            return bound.value;
-        }
-    }
-    0
-}
-
-/// The scope inside a turn of a loop of this name.
-pub(crate) fn inside<'a>(
-    alloc: Global,
-    scope: &[Bound<'a>],
+/// Makes of a room the scope inside a turn of a loop. All turns share one room, which takes memory for the first of them alone.
+pub(crate) fn enter<'a>(
+    room: &mut Vec<Bound<'a>>,
+    outer: &[Bound<'a>],
     name: &'a [u8],
-    value: u32,
-) -> Result<Vec<Bound<'a>>, Memory>
-    ensures { IfOk result (λ inner. scope_of inner.items ≡ inside (scope_of scope.now) name.now value) }
+    turn: u32,
+) -> Result<(), Memory>
+    ensures { IfOk result (λ _. scope_of room.new.items ≡ inside (scope_of outer.now) name.now turn) }
 {
-    let mut inner = scope.to_vec(alloc)?;
-    inner.push(Bound { name, value })?;
-    Ok(inner)
+    room.clear();
+    room.extend_from_slice(outer)?;
+    room.push(Bound { name, value: turn })?;
+    Ok(())
 }
 
 /// The number of the first gadget of this name; 0 where it is none.
-pub(crate) fn gadget_number(gadgets: &[Decl], name: &[u8]) -> u32
+pub(crate) fn gadget_of(gadgets: &[Decl], name: &[u8]) -> u32
     requires { length gadgets.now < 2 ^ 32 }
     ensures { result ≡ unwrap_or (gadget_number (map declaration_of gadgets.now) name.now) 0 }
 {
-    for (number, decl) in gadgets.iter().enumerate() {
-        if decl.name.as_slice() == name {
-            return number as u32;
-        }
+    match gadget_number(gadgets, name) {
+        Some(number) => number as u32,
+        None => 0,
     }
-    0
 }

@@ -1,7 +1,7 @@
 //! Steps of values that are made of the values of others.
 ghost use Rattle.std.specs.Prelude.{◌≡◌, ◌+◌, ◌-◌, ◌*◌, ◌^◌, ◌<◌, length, slice_index, IfOk, IfSome};
 ghost use Rattle.flp_field.specs.Word.{modulus};
-ghost use Rattle.flp_meaning.specs.Meaning.{signed};
+ghost use Rattle.flp_meaning.specs.Meaning.{value_with_sign};
 ghost use Rattle.flp_forms.specs.LinearForms.{ScaleFits};
 ghost use Rattle.flp_emit.specs.Emitting.{sign_factor, Scales};
 ghost use Rattle.flp_emit.specs.Standing.{so_far, MakesValue};
@@ -78,14 +78,14 @@ pub(crate) fn raised(steps: &mut Steps, base: u32, exponent: u32) -> Result<u32,
     requires { base < length steps.old.steps }
     ensures { IfOk result (λ step. MakesValue steps.old steps.new step (λ values. slice_index values base ^ exponent)) }
 {
-    let step = steps.power(base, u64::from(exponent))?;
+    let step = steps.power(base, exponent)?;
     Ok(step)
 }
 
 /// A step of an item of a sum with its sign.
 pub(crate) fn with_sign(steps: &mut Steps, minus: bool, item: u32) -> Result<u32, Memory>
     requires { item < length steps.old.steps }
-    ensures { IfOk result (λ step. MakesValue steps.old steps.new step (λ values. signed minus (slice_index values item))) }
+    ensures { IfOk result (λ step. MakesValue steps.old steps.new step (λ values. value_with_sign minus (slice_index values item))) }
 {
     if minus {
         let minus_one = minus_one(steps)?;

@@ -1,7 +1,8 @@
 -- A false report is accepted for few values of its weak word, since its proof is.
-use Rattle.std.proofs.Common.{ℕ, zero, suc, ◌≡◌, ◌+◌, ◌<◌, ◌≤◌, Bool, true, false, ◌&&◌, List, length, map, refl, ap, ap₂, sym, subst, ◌∙◌, ⊎_elim, arith}
+use Rattle.std.proofs.Common.{ℕ, zero, suc, ◌≡◌, ◌+◌, ◌<◌, ◌≤◌, Bool, true, false, List, length, map, refl, ap, ap₂, sym, subst, ◌∙◌, ⊎_elim, arith}
 use Rattle.std.specs.Prelude.{◌↔◌, slice_set, Option, None, Some, All}
 use Rattle.std.specs.List.{list_all, range_with_len}
+use Rattle.std.proofs.lemmas.Bool.{and_parts}
 use Rattle.std.proofs.lemmas.List.{take_all}
 use Rattle.std.proofs.Math.Nat.{eq-or-lt_of_le}
 use Rattle.flp_field.specs.Word.{IsWord}
@@ -32,11 +33,6 @@ use Rattle.flp_explain.proofs.ReplacedLemmas.{words-replaced, encoding-kept, pro
 
 -- ---- what an accepted record says of one proof
 
-both-true : (one other : Bool) → (one && other) ≡ true → (one ≡ true) × (other ≡ true)
-both-true true true is = (refl, refl)
-both-true true false is = cc
-both-true false other is = cc
-
 held : (bad : Option ℕ) (inside : Option (ℕ × ℕ)) (hold : Bool) → verdict_by bad inside hold ≡ Accepted → hold ≡ true
 held (Some word) inside hold is = cc
 held None (Some named) hold is = cc
@@ -46,7 +42,7 @@ held None None false is = cc
 each-holds : (holds : ℕ → Bool) (start count k : ℕ) → list_all holds (range_with_len start count) ≡ true → start ≤ k → k < start + count → holds k ≡ true
 each-holds holds start zero k all from below = absurd (omega arith)
 each-holds holds start (suc count) k all from below =
-    let both = both-true (holds start) (list_all holds (range_with_len (start + 1) count)) all in
+    let both = and_parts (holds start) (list_all holds (range_with_len (start + 1) count)) all in
     ⊎_elim
     (λ (same : start ≡ k). subst (λ (j : ℕ). holds j ≡ true) same both.0)
     (λ (before : start < k). each-holds holds (start + 1) count k both.1 (omega arith) (omega arith))

@@ -11,10 +11,10 @@ use Rattle.flp_field.specs.Word.{IsWord}
 use Rattle.flp_field.specs.Sums.{sum_of_lists}
 use Rattle.flp_meaning.specs.Proof.{words_at}
 use Rattle.flp_report.specs.declared.shape.Shape.{Shape}
-use Rattle.flp_report.specs.Shape.{part_of, words_of, bytes_of}
-use Rattle.flp_report.specs.Record.{nonce_in, words_in, own_word}
+use Rattle.flp_report.specs.Shape.{part_words, words_of, words_start, bytes_of}
+use Rattle.flp_report.specs.Record.{words_in, own_word}
 use Rattle.flp_report.specs.Words.{words}
-use Rattle.flp_report.specs.Layout.{word_bytes, record_bytes}
+use Rattle.flp_report.specs.Layout.{word_bytes}
 use Rattle.flp_worker.specs.Parts.{share_encoding, share_proof, joint_words, query_words, unshared_encoding, unshared_proof}
 use Rattle.flp_worker.proofs.PrefixLemmas.{part-fits}
 use Rattle.flp_worker.proofs.PartLemmas.{length-words_in}
@@ -35,10 +35,10 @@ words-written (w ∷ ws) all =
     ∙ ap (λ (l : List ℕ). w ∷ l) rest)
 
 -- so are those of a record
-read-written : (shape : Shape) (nonce ws : List ℕ) → length nonce ≡ 16 → length ws ≡ words_of shape → All IsWord ws
-    → words_in shape (record_bytes nonce ws) ≡ ws
-read-written shape nonce ws size count all =
-    ap (λ (b : List ℕ). words (words_of shape) b) (drop_at nonce (word_bytes ws) 16 size)
+read-written : (shape : Shape) (front ws : List ℕ) → length front ≡ words_start shape → length ws ≡ words_of shape → All IsWord ws
+    → words_in shape (front ++ word_bytes ws) ≡ ws
+read-written shape front ws size count all =
+    ap (λ (b : List ℕ). words (words_of shape) b) (drop_at front (word_bytes ws) (words_start shape) size)
     ∙ ap (λ (n : ℕ). words n (word_bytes ws)) (sym count)
     ∙ words-written ws all
 
@@ -48,8 +48,8 @@ words-replaced shape bytes proof number value size all word =
     let place : ℕ = query_word shape proof number in
     let count : length (slice_set (words_in shape bytes) place value) ≡ words_of shape =
     length-set (words_in shape bytes) place value ∙ length-words_in shape bytes in
-    read-written shape (nonce_in bytes) (slice_set (words_in shape bytes) place value)
-    (omega (arith, length-take 16 bytes, size)) count (All-set IsWord (words_in shape bytes) place value word all)
+    read-written shape (take (words_start shape) bytes) (slice_set (words_in shape bytes) place value)
+    (omega (arith, length-take (words_start shape) bytes, size)) count (All-set IsWord (words_in shape bytes) place value word all)
 
 -- ---- parts of a list in which one word is replaced
 
@@ -79,9 +79,9 @@ map-same f g start (suc count) same =
 -- ---- the parts of a record
 
 -- a share's part ends in front of each query word
-share-before : (shape : Shape) (share proof number : ℕ) → share < shape.shares → share * part_of shape + part_of shape ≤ query_word shape proof number
+share-before : (shape : Shape) (share proof number : ℕ) → share < shape.shares → share * part_words shape + part_words shape ≤ query_word shape proof number
 share-before shape share proof number below =
-    let fits : share * part_of shape + part_of shape ≤ shape.shares * part_of shape = part-fits share shape.shares (part_of shape) below in
+    let fits : share * part_words shape + part_words shape ≤ shape.shares * part_words shape = part-fits share shape.shares (part_words shape) below in
     omega (arith, fits)
 
 pub encoding-kept : (shape : Shape) (ws : List ℕ) (proof number value : ℕ)
@@ -91,8 +91,8 @@ encoding-kept shape ws proof number value =
     ap (λ (lists : List (List ℕ)). sum_of_lists shape.meas lists)
     (map-same (share_encoding shape (slice_set ws place value)) (share_encoding shape ws) 0 shape.shares
     (λ share below.
-    let before : share * part_of shape + part_of shape ≤ place = share-before shape share proof number (omega (arith, below)) in
-    part-before (share * part_of shape) shape.meas place value ws (omega (arith, before))))
+    let before : share * part_words shape + part_words shape ≤ place = share-before shape share proof number (omega (arith, below)) in
+    part-before (share * part_words shape) shape.meas place value ws (omega (arith, before))))
 
 pub proof-kept : (shape : Shape) (ws : List ℕ) (proof number value : ℕ) → proof < shape.proofs
     → unshared_proof shape (slice_set ws (query_word shape proof number) value) proof ≡ unshared_proof shape ws proof
@@ -102,8 +102,8 @@ proof-kept shape ws proof number value inside =
     ap (λ (lists : List (List ℕ)). sum_of_lists shape.proof lists)
     (map-same (share_proof shape (slice_set ws place value) proof) (share_proof shape ws proof) 0 shape.shares
     (λ share below.
-    let before : share * part_of shape + part_of shape ≤ place = share-before shape share proof number (omega (arith, below)) in
-    part-before (share * part_of shape + (shape.meas + proof * shape.proof)) shape.proof place value ws (omega (arith, before, fits))))
+    let before : share * part_words shape + part_words shape ≤ place = share-before shape share proof number (omega (arith, below)) in
+    part-before (share * part_words shape + (shape.meas + proof * shape.proof)) shape.proof place value ws (omega (arith, before, fits))))
 
 pub joint-kept : (shape : Shape) (ws : List ℕ) (proof number value : ℕ)
     → joint_words shape (slice_set ws (query_word shape proof number) value) proof ≡ joint_words shape ws proof

@@ -1,13 +1,13 @@
 -- How many values of one query word let a record through whose encoding is not valid.
-use Rattle.std.specs.Prelude.{ℕ, ◌≡◌, ◌+◌, ◌<◌, List, length, slice_set, None, Some}
+use Rattle.std.specs.Prelude.{ℕ, ◌≡◌, ◌+◌, ◌<◌, List, ◌++◌, length, take, slice_set, None, Some}
 use Rattle.flp_field.specs.Word.{IsWord}
 use Rattle.flp_syntax.specs.Tree.{Program}
 use Rattle.flp_meaning.specs.Circuit.{IsValid}
 use Rattle.flp_report.specs.declared.shape.Shape.{Shape}
-use Rattle.flp_report.specs.Shape.{bytes_of}
-use Rattle.flp_report.specs.Record.{nonce_in, words_in, own_word}
+use Rattle.flp_report.specs.Shape.{bytes_of, words_start}
+use Rattle.flp_report.specs.Record.{words_in, own_word}
 use Rattle.flp_report.specs.Words.{bad_word_in}
-use Rattle.flp_report.specs.Layout.{record_bytes}
+use Rattle.flp_report.specs.Layout.{word_bytes}
 use Rattle.flp_policy.specs.declared.verdict.Verdict.TheVariants.{Accepted}
 use Rattle.flp_weak.specs.declared.word.Weak.{Weak}
 use Rattle.flp_weak.specs.AtMost.{AtMost}
@@ -23,7 +23,7 @@ query_word shape proof number = own_word shape proof + shape.joint + number
 -- the record with this value in place of that word
 abbrev pub with_query_word : Shape → (bytes : List ℕ) → (proof number value : ℕ) → List ℕ
 with_query_word shape bytes proof number value =
-    record_bytes (nonce_in bytes) (slice_set (words_in shape bytes) (query_word shape proof number) value)
+    take (words_start shape) bytes ++ word_bytes (slice_set (words_in shape bytes) (query_word shape proof number) value)
 
 -- the record is accepted with this value in that place, where its nonce is new
 pub record AcceptsValue (program : Program) (shape : Shape) (bytes : List ℕ) (proof number value : ℕ) : Type 0 where

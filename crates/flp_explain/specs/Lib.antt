@@ -5,7 +5,5 @@ pub mod Found
 pub mod Laws
 -- the text
 pub mod Text
--- the sum of the shares
-pub mod Unshared
 -- what explains one record after another
 pub mod Explaining

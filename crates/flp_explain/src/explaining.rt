@@ -1,23 +1,24 @@
 //! What `explain` makes of each record of a batch.
-ghost use Rattle.std.specs.Prelude.{◌≡◌, ◌++◌, ◌<◌, [], None, vec_len, length, IfOk, OnOk};
+ghost use Rattle.std.specs.Prelude.{◌≡◌, ◌++◌, ◌<◌, [], length, vec_len, IfOk, OnOk};
 ghost use Rattle.std.specs.List.{flat_map};
-ghost use Rattle.flp_report.specs.Shape.{part_of};
-ghost use Rattle.flp_report.specs.Record.{record_of, shape_of, words_in};
-ghost use Rattle.flp_report.specs.Words.{bad_word_in};
-ghost use Rattle.flp_worker.specs.Parts.{proof_numbers};
+ghost use Rattle.flp_report.specs.Shape.{words_of};
+ghost use Rattle.flp_report.specs.Record.{record_of, words_in};
+ghost use Rattle.flp_worker.specs.Parts.{proof_numbers, unshared_encoding};
+ghost use Rattle.flp_worker.specs.Words.{shape_held, words_held};
 ghost use Rattle.flp_worker.specs.Worker.{IsShapeOf};
-ghost use Rattle.flp_explain.specs.Found.{weak_in};
+ghost use Rattle.flp_explain.specs.Found.{weak_among};
 ghost use Rattle.flp_explain.specs.Text.{proof_line};
-ghost use Rattle.flp_explain.specs.Unshared.{unshared_part};
 
 use crate::Memory;
-use crate::text::{push_malformed_line, push_proof_line};
-use crate::unshared::{encoding_in, load_joint, proof_in, unshare};
+use crate::text::push_proof_line;
 use flp_batch::Judge;
 use flp_field::Fe;
 use flp_plan::Plan;
+use flp_policy::Verdict;
 use flp_report::{Record, Shape};
+use flp_verdict::push_line;
 use flp_weak::{Weak, weak_word};
+use flp_worker::Words;
 use std::alloc::{AllocError, Global};
 
 /// Explains records of one shape, one after another.
@@ -26,72 +27,61 @@ pub(crate) struct Explaining<'a> {
     alloc: Global,
     plan: &'a Plan,
     shape: Shape,
-    /// Room for the words of a share.
-    part: Vec<Fe>,
-    /// The sum of the words of the shares.
-    whole: Vec<Fe>,
-    /// The joint words of a proof.
-    joint: Vec<Fe>,
+    /// The words of a record.
+    words: Vec<Fe>,
+    /// The unshared encoding.
+    encoding: Vec<Fe>,
+    /// An unshared proof.
+    proof: Vec<Fe>,
     ghost fits: { IsShapeOf plan.now.circuit shape },
-    ghost for_part: { vec_len part ≡ part_of shape },
-    ghost for_whole: { vec_len whole ≡ part_of shape },
-    ghost for_joint: { vec_len joint ≡ shape.joint },
+    ghost for_words: { vec_len words ≡ words_of shape },
+    ghost for_encoding: { vec_len encoding ≡ shape.meas },
+    ghost for_proof: { vec_len proof ≡ shape.proof },
 }
 
-/// The weak word of a proof. Each word of the record is a word of the field, and `whole` is their sum over the
-/// shares.
+/// The weak word of a proof of a record with these words, whose unshared encoding is `encoding`.
 ///
-/// `joint` has a place for each joint word, and holds anything afterwards.
+/// `room` has a place for each word of a proof, and holds anything afterwards.
 fn find_weak(
     alloc: Global,
     plan: &Plan,
-    shape: &Shape,
-    given: &Record,
+    words: &Words,
     proof: u32,
-    whole: &[Fe],
-    joint: &mut [Fe],
+    encoding: &[Fe],
+    room: &mut [Fe],
 ) -> Result<Option<Weak>, Memory>
-    requires fits { IsShapeOf plan.now.circuit shape.now }
-    requires shape { shape_of given.now ≡ shape.now }
-    requires below { bad_word_in (words_in shape.now (record_of given.now)) ≡ None }
-    requires proof { proof < shape.now.proofs }
-    requires whole { whole.now ≡ unshared_part shape.now (words_in shape.now (record_of given.now)) }
-    requires room { length joint.old ≡ shape.now.joint }
-    ensures { IfOk result (λ found. found ≡ weak_in plan.now.circuit shape.now (record_of given.now) proof) }
+    requires fits { IsShapeOf plan.now.circuit (shape_held words.now) }
+    requires proof { proof < (shape_held words.now).proofs }
+    requires encoding { encoding.now ≡ unshared_encoding (shape_held words.now) (words_held words.now) }
+    requires room { length room.old ≡ (shape_held words.now).proof }
+    ensures { IfOk result (λ found. found ≡ weak_among plan.now.circuit (shape_held words.now) (words_held words.now) proof) }
 {
-    load_joint(shape, given, proof, joint);
-    let found = weak_word(
-        alloc,
-        plan,
-        encoding_in(shape, whole),
-        joint,
-        proof_in(shape, proof, whole),
-    )?;
+    words.write_proof(proof, room);
+    let found = weak_word(alloc, plan, encoding, words.joint(proof), room)?;
     Ok(found)
 }
 
-/// Appends a line for each proof. Each word of the record is a word of the field, and `whole` is their sum over the
-/// shares.
+/// Appends a line for each proof of a record with these words, whose unshared encoding is `encoding`.
 ///
-/// `joint` has a place for each joint word, and holds anything afterwards.
+/// `room` has a place for each word of a proof, and holds anything afterwards.
 fn push_proof_lines(
     alloc: Global,
     plan: &Plan,
-    shape: &Shape,
+    words: &Words,
     given: &Record,
-    whole: &[Fe],
-    joint: &mut [Fe],
+    encoding: &[Fe],
+    room: &mut [Fe],
     line: &mut Vec<u8>,
 ) -> Result<(), Memory>
-    requires fits { IsShapeOf plan.now.circuit shape.now }
-    requires shape { shape_of given.now ≡ shape.now }
-    requires below { bad_word_in (words_in shape.now (record_of given.now)) ≡ None }
-    requires whole { whole.now ≡ unshared_part shape.now (words_in shape.now (record_of given.now)) }
-    requires room { length joint.old ≡ shape.now.joint }
-    ensures { OnOk result (line.new.items ≡ line.old.items ++ flat_map (proof_line plan.now.circuit shape.now (record_of given.now)) (proof_numbers shape.now)) }
+    requires fits { IsShapeOf plan.now.circuit (shape_held words.now) }
+    requires words { words_held words.now ≡ words_in (shape_held words.now) (record_of given.now) }
+    requires encoding { encoding.now ≡ unshared_encoding (shape_held words.now) (words_held words.now) }
+    requires room { length room.old ≡ (shape_held words.now).proof }
+    ensures { OnOk result (line.new.items ≡ line.old.items
+        ++ flat_map (proof_line plan.now.circuit (shape_held words.now) (record_of given.now)) (proof_numbers (shape_held words.now))) }
 {
-    for proof in 0..shape.proofs {
-        let found = find_weak(alloc, plan, shape, given, proof, whole, joint)?;
+    for proof in 0..words.proofs() {
+        let found = find_weak(alloc, plan, words, proof, encoding, room)?;
         push_proof_line(line, given.nonce(), proof, found)?;
     }
     Ok(())
@@ -109,45 +99,50 @@ impl<'a> Explaining<'a> {
         requires { IsShapeOf plan.now.circuit shape.now }
         ensures { IfOk result (λ e. setting_of e ≡ record { circuit = plan.now.circuit; shape = shape.now; claims = [] }) }
     {
-        let size = shape.part() as usize;
         Ok(Explaining {
             alloc,
             plan,
             shape: *shape,
-            part: vec![in alloc; Fe::ZERO; size]?,
-            whole: vec![in alloc; Fe::ZERO; size]?,
-            joint: vec![in alloc; Fe::ZERO; shape.joint as usize]?,
+            words: vec![in alloc; Fe::ZERO; shape.words() as usize]?,
+            encoding: vec![in alloc; Fe::ZERO; shape.meas as usize]?,
+            proof: vec![in alloc; Fe::ZERO; shape.proof as usize]?,
         })
     }
 }
 
 impl<'a> Judge for Explaining<'a> {
     ghost use Rattle.std.specs.Prelude.{⊤};
-    ghost use Rattle.flp_explain.specs.Text.{line_by};
+    ghost use Rattle.flp_explain.specs.Text.{words_by};
     ghost use Rattle.flp_explain.specs.Explaining.{setting_of};
 
-    ghost setting = { setting_of };
+    ghost record_shape = { λ e. (setting_of e).shape };
 
-    ghost line_of = { λ e. line_by (setting_of e) };
+    ghost wording = { λ e. words_by (setting_of e) };
 
     ghost follows = { λ _ _. ⊤ };
 
-    ghost judged = { λ _. 0 };
+    ghost count = { λ _. 0 };
 
     fn judge(&mut self, given: &Record, line: &mut Vec<u8>) -> Result<(), AllocError> {
         line.clear();
-        if let Some(word) = given.bad_word() {
-            return push_malformed_line(line, given.nonce(), word);
+        if let Err(word) = given.load(&mut self.words) {
+            return push_line(line, given.nonce(), Verdict::Malformed { word });
         }
-        unshare(&self.shape, given, &mut self.part, &mut self.whole);
+        let words = Words::new(&self.shape, &self.words);
+        words.write_encoding(&mut self.encoding);
         push_proof_lines(
             self.alloc,
             self.plan,
-            &self.shape,
+            &words,
             given,
-            &self.whole,
-            &mut self.joint,
+            &self.encoding,
+            &mut self.proof,
             line,
         )
+    }
+
+    fn end(&self, ending: &mut Vec<u8>) -> Result<(), AllocError> {
+        ending.clear();
+        Ok(())
     }
 }

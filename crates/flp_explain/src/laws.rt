@@ -26,4 +26,6 @@ pub fn valid_has_none()
 pub fn false_reports()
     ensures { (text : List ℕ) (params : Option Params) (program : Program) → IsLoaded text params program
         → (shape : Shape) → IsShapeOf program shape → LimitsFalseReports program shape }
-{}
+{
+    flp_load::laws::loaded_is_bounded();
+}

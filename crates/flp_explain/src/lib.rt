@@ -2,7 +2,7 @@
 //!
 //! [`explain`] walks through a batch and writes for each proof of each record whether the unshared encoding is valid
 //! under the proof's joint words, or else the query word that limits the proof, and how many of its values are
-//! accepted at most. Its contract says which lines it writes, as a function of the bytes that it reads: `explained`
+//! accepted at most. Its contract says which lines it writes, as a function of the bytes that it reads: `lines_by`
 //! in `specs/Text.antt`. A record with a word that is no word of the field has a line that names the least such word;
 //! records whose nonce stood in the file before are explained like any other.
 //!
@@ -13,10 +13,7 @@
 mod command;
 mod explaining;
 pub mod laws;
-#[cfg(test)]
-mod tests;
 mod text;
-mod unshared;
 
 pub use command::explain;
 pub use flp_batch::EngineFault;

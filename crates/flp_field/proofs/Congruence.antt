@@ -1,5 +1,5 @@
 -- Numbers that are the same word: congruence modulo p, which sums, products and powers keep. From the relation up.
-use Rattle.std.proofs.Common.{ℕ, ◌≡◌, ◌+◌, ◌*◌, ◌%◌, ◌^◌, ◌<◌, arith, ap, ap₂, sym, ◌∙◌, refl}
+use Rattle.std.proofs.Common.{ℕ, ◌≡◌, ◌+◌, ◌*◌, ◌%◌, ◌^◌, ◌<◌, arith, ap, ap₂, sym, ◌∙◌}
 use Rattle.std.proofs.Math.Nat.{add-mod, mod-mod, mod-eq_of_lt}
 use Rattle.std.proofs.lemmas.Nat.{mul-mod, pow-mod}
 use Rattle.flp_field.specs.Word.{modulus}
@@ -7,15 +7,6 @@ use Rattle.flp_field.specs.Word.{modulus}
 -- the two numbers have one remainder, so they are one word
 abbrev pub Same : ℕ → ℕ → Type 0
 Same a b = a % modulus ≡ b % modulus
-
-pub same_refl : (a : ℕ) → Same a a
-same_refl a = refl
-
-pub same_sym : (a b : ℕ) → Same a b → Same b a
-same_sym a b e = sym e
-
-pub same_trans : (a b c : ℕ) → Same a b → Same b c → Same a c
-same_trans a b c e f = e ∙ f
 
 -- equal numbers are the same word
 pub same_eq : (a b : ℕ) → a ≡ b → Same a b

@@ -10,8 +10,8 @@ use Rattle.std.proofs.lemmas.List.FromFn.{length-map-range_with_len, get_or-map-
 use Rattle.flp_field.specs.Word.{modulus, word_power}
 use Rattle.flp_field.specs.Order.{HasOrder}
 use Rattle.flp_field.specs.Domain.{alpha, powers_of, domain}
-use Rattle.flp_field.proofs.Congruence.{Same, same_add, same_mul, same_pow, same_mod, same_cancel, mod_word, word_mod}
-use Rattle.flp_field.proofs.Powers.{pow-pow, one-pow, pow-one}
+use Rattle.flp_field.proofs.Congruence.{Same, same_add, same_mul, same_pow, same_mod, same_cancel, mod_word}
+use Rattle.flp_field.proofs.Powers.{pow-pow, one-pow}
 use Rattle.flp_field.proofs.Order.{group_size, group_size_is, seven_full, seven_order, less_ones, more_ones, same_powers, powers_reach, power_by, seven_to}
 use Rattle.flp_field.proofs.ProductLemmas.{cancelled}
 
@@ -133,30 +133,6 @@ alpha-half log below =
     ∙ order.returns in
     minus_one (alpha (2 ^ suc log) ^ (2 ^ log) % modulus) h_word square
     (λ (one : alpha (2 ^ suc log) ^ (2 ^ log) % modulus ≡ 1). order.first (2 ^ log) half_pos (omega arith) one)
-
-squared_is : (x : ℕ) → x ^ 2 ≡ x * x
-squared_is x = let step : x ^ 2 ≡ x ^ 1 * x = pow-suc x 1 in step ∙ ap (λ (y : ℕ). y * x) (pow-one x)
-
-exponent_halved : (log : ℕ) → log < 32 → root_exponent (suc log) * 2 ≡ root_exponent log
-unfolding root_exponent
-exponent_halved log below =
-    let less : suc (32 - suc log) ≡ 32 - log = omega arith in
-    let double : 2 ^ (32 - log) ≡ 2 ^ (32 - suc log) * 2 = ap (λ (x : ℕ). 2 ^ x) (sym less) ∙ pow-suc 2 (32 - suc log) in
-    let grouped : odd_part * 2 ^ (32 - suc log) * 2 ≡ odd_part * (2 ^ (32 - suc log) * 2) = omega arith in
-    grouped ∙ ap (λ (x : ℕ). odd_part * x) (sym double)
-
--- the square of the root of size 2^(log + 1) is the root of size 2^log
-pub alpha-square : (log : ℕ) → log < 32 → (alpha (2 ^ suc log) * alpha (2 ^ suc log)) % modulus ≡ alpha (2 ^ log)
-alpha-square log below =
-    ap (λ (x : ℕ). x % modulus) (sym (squared_is (alpha (2 ^ suc log)))) ∙ alpha-power (suc log) 2 (omega arith)
-    ∙ ap (λ (x : ℕ). 7 ^ x % modulus) (exponent_halved log below) ∙ sym (alpha-is log (omega arith))
-
--- the root of size 1 is 1
-pub alpha-unit : alpha 1 ≡ 1
-alpha-unit =
-    let full : alpha 1 ^ 1 % modulus ≡ 1 = alpha-full 0 (omega arith) in
-    sym (word_mod (alpha 1) (alpha-word 0 (omega arith)))
-    ∙ ap (λ (x : ℕ). x % modulus) (sym (pow-one (alpha 1))) ∙ full
 
 -- ---- powers of a word with an order
 

@@ -10,7 +10,7 @@ ghost use Rattle.flp_field.specs.Laws.{ProductAssociates, ProductCommutes, Produ
 ghost use Rattle.flp_field.specs.Laws.{NoZeroDivisors, HasInverses, InversesAreUnique, FoldsProduct};
 ghost use Rattle.flp_field.specs.Order.{SevenHasOrder, SevenGenerates, FullPowerIsOne};
 ghost use Rattle.flp_field.specs.Domain.{RootsHaveOrder, DomainIsRoots, PowersDiffer, PowersSumToZero, OnesSumToCount};
-ghost use Rattle.flp_field.specs.Sums.{SumHasWords, SumOfOneList, SumHasFirst};
+ghost use Rattle.flp_field.specs.Sums.{SumHasWords, SumOfNoLists, SumOfOneList, SumHasFirst, SumHasParts};
 
 use crate::word::Fe;
 
@@ -80,12 +80,14 @@ pub fn sums_of_powers()
     ensures count { OnesSumToCount }
 {}
 
-/// A sum of lists of n words, word by word, has n words; that of one list is the list, and that of several
-/// is the sum of the first and of the sum of the others.
+/// A sum of lists of n words, word by word, has n words. That of no lists is 0, that of one list is the list,
+/// and that of several is the sum of the first and of the sum of the others; its parts are the sums of theirs.
 pub fn sums_of_lists()
     ensures words { SumHasWords }
+    ensures none { SumOfNoLists }
     ensures one { SumOfOneList }
     ensures first { SumHasFirst }
+    ensures parts { SumHasParts }
 {}
 
 /// Each element of a slice of words is a word. A proof learns it from here, and a build drops the loop.

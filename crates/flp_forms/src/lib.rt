@@ -7,8 +7,7 @@
 //!
 //! Contracts see values as whole numbers that are not reduced: a sum is +, a product is *, and -1 is p - 1
 //! (`specs/PublicValues.antt`, `specs/LinearForms.antt`). So each value is that of the circuit's text by the
-//! laws of whole numbers alone, and the calls that compute it answer it modulo p. Since a form is linear, its
-//! values on shares add up to its value on their sums ([`laws`]).
+//! laws of whole numbers alone, and the calls that compute it answer it modulo p.
 //!
 //! Only `Steps::new` and the calls that append take memory: `constant`, `sum`, `product`, `power` and
 //! `scale_product` of [`Steps`], `push` and `append` of [`Forms`].
@@ -19,7 +18,6 @@
 
 mod form;
 mod forms;
-pub mod laws;
 mod step;
 mod steps;
 mod term;
@@ -31,6 +29,3 @@ pub use steps::Steps;
 /// Want of memory.
 pub use std::alloc::AllocError as Memory;
 pub use term::{Scale, Source, Term};
-
-#[cfg(test)]
-mod tests;

@@ -1,40 +1,37 @@
 //! Public values in a straight line.
 ghost use Rattle.std.specs.Prelude.{◌≡◌, ℕ, List, ◌+◌, ◌*◌, ◌^◌, ◌<◌, ◌≤◌, length, map, IfOk, OnErr, IfSome, slice_index};
 ghost use Rattle.std.specs.List.{range_with_len};
-ghost use Rattle.flp_forms.specs.PublicValues.{step_value, publics, public_at, reduced, StepFits};
+ghost use Rattle.flp_forms.specs.PublicValues.{step_value, publics, public_at, residues, StepFits};
 ghost use Rattle.flp_forms.specs.StraightLine.{Grows, StandsFor, ScalesBy};
 ghost use Rattle.flp_forms.specs.LinearForms.{scale_value, ScaleFits};
 
 use crate::Memory;
-use crate::step::{Step, value_of};
+use crate::step::{Step, WordPower, value_of};
 use crate::term::Scale;
 use flp_field::{Fe, MODULUS};
 use std::alloc::Global;
-use std::collections::HashMap;
 use std::marker::Model;
 
-/// A step by which the table of steps is asked.
-#[derive(Clone, Copy, PartialEq, Eq, Hash, Debug)]
-enum Key {
-    Constant(u64),
-    Joint(u32),
-    Sum(u32, u32),
-    Product(u32, u32),
-}
+/// The places of the table of steps: 2^16.
+const PLACES: usize = 65_536;
+
+/// 2^64 divided by the golden ratio: multiples of it are spread evenly, modulo 2^64.
+const SPREAD: u64 = 0x9E37_79B9_7F4A_7C15;
 
 /// Public values in a straight line: a list of steps, each of which reads earlier ones.
 ///
 /// The first steps are the joint words, one step each. Every other call asks first whether the step that it
-/// would append is there already, so equal steps are one: the powers of a word in turn, from the first on,
-/// take one product each, however often they are asked for.
+/// would append is there already, and appends one step at most. It asks a table of a fixed size, which forgets a
+/// step where another comes to its place: so equal steps are one as far as the table remembers, and asking takes the
+/// same short time whatever the steps are.
 ///
 /// Contracts see the number of joint words and the list of steps.
 #[derive(Drop)]
 pub struct Steps {
     joint: u32,
     items: Vec<Step>,
-    /// Where a step stands. What it tells is looked up before it is used.
-    seen: HashMap<Key, u32>,
+    /// Where a step may stand. What it tells is looked up before it is used.
+    seen: Vec<u32>,
 }
 
 impl Model for Steps {
@@ -48,7 +45,7 @@ impl Model for Steps {
 }
 
 impl Steps {
-    /// The joint words, as the first steps.
+    /// The joint words, as the first steps. It takes memory for them and for the table.
     pub fn new(alloc: Global, joint: u32) -> Result<Steps, Memory>
         ensures joint { IfOk result (λ line. line.joint ≡ joint) }
         ensures steps { IfOk result (λ line. line.steps ≡ map (λ word. Step.Joint word) (range_with_len 0 joint)) }
@@ -60,8 +57,20 @@ impl Steps {
         Ok(Steps {
             joint,
             items,
-            seen: HashMap::new(alloc),
+            seen: vec![in alloc; 0; PLACES]?,
         })
+    }
+
+    /// The same steps without the table by which equal steps are found, once all of them are there.
+    pub fn finish(self, alloc: Global) -> Steps
+        ensures { result ≡ self }
+    {
+        let Steps { joint, items, .. } = self;
+        Steps {
+            joint,
+            items,
+            seen: Vec::new(alloc),
+        }
     }
 
     /// The number of public values.
@@ -122,19 +131,17 @@ impl Steps {
     }
 
     /// A step of the value of a step to a power, which is 1 where the exponent is 0.
-    ///
-    /// It takes at most two products for each binary digit of the exponent, and the powers of a step in turn, from
-    /// the first on, take one each. After want of memory there may be new steps.
-    pub fn power(&mut self, base: u32, exponent: u64) -> Result<u32, Memory>
+    pub fn power(&mut self, base: u32, exponent: u32) -> Result<u32, Memory>
         requires { base < length self.old.steps }
         ensures grows { Grows self.old self.new }
-        ensures few { length self.new.steps ≤ length self.old.steps + 128 }
+        ensures few { length self.new.steps ≤ length self.old.steps + 1 }
         ensures value { IfOk result (λ step. StandsFor self.new step (λ joint. public_at self.old.steps base joint ^ exponent)) }
+        ensures err { OnErr result (self.new ≡ self.old) }
     {
-        if exponent == 0 {
-            return self.constant(Fe::ONE);
+        if exponent == 1 {
+            return Ok(base);
         }
-        self.raised(base, exponent)
+        self.place(&Step::Power(base, exponent))
     }
 
     /// The coefficient with the value of a step: 1 or -1 where the step is that constant, and then it takes no product.
@@ -176,10 +183,11 @@ impl Steps {
     pub fn run(&self, joint: &[Fe], out: &mut [Fe])
         requires words { length joint.now ≡ self.now.joint }
         requires size { length out.old ≡ length self.now.steps }
-        ensures { out.new ≡ reduced (publics self.now.steps joint.now) }
+        ensures { out.new ≡ residues (publics self.now.steps joint.now) }
     {
+        let mut last = WordPower::first();
         for (i, step) in self.items.iter().enumerate() {
-            out[i] = value_of(*step, joint, &out[..i]);
+            out[i] = value_of(*step, joint, &out[..i], &mut last);
         }
     }
 
@@ -197,26 +205,6 @@ impl Steps {
         }
     }
 
-    /// The power by halves: the square of the power with half the exponent, and one factor more where that is odd.
-    fn raised(&mut self, base: u32, exponent: u64) -> Result<u32, Memory>
-        requires base { base < length self.old.steps }
-        requires some { 0 < exponent }
-        ensures grows { Grows self.old self.new }
-        ensures few { (digits : ℕ) → exponent < 2 ^ digits → length self.new.steps ≤ length self.old.steps + 2 * digits }
-        ensures value { IfOk result (λ step. StandsFor self.new step (λ joint. public_at self.old.steps base joint ^ exponent)) }
-    {
-        if exponent == 1 {
-            return Ok(base);
-        }
-        let half = self.raised(base, exponent / 2)?;
-        let square = self.product(half, half)?;
-        if exponent % 2 == 0 {
-            return Ok(square);
-        }
-        let power = self.product(square, base)?;
-        Ok(power)
-    }
-
     /// Where this step stands, which is appended if it is not there.
     fn place(&mut self, step: &Step) -> Result<u32, Memory>
         requires { StepFits self.old.joint (length self.old.steps) step.now }
@@ -232,8 +220,8 @@ impl Steps {
         if index == u32::MAX {
             return Err(Memory);
         }
-        self.seen.insert(key_of(step), index)?;
         self.items.push(*step)?;
+        self.remember(step, index);
         Ok(index)
     }
 
@@ -241,18 +229,33 @@ impl Steps {
     fn place_of(&self, step: &Step) -> Option<u32>
         ensures { IfSome result (λ index. StandsFor self.now index (λ joint. step_value (publics self.now.steps joint) joint step.now)) }
     {
-        let index = *self.seen.get(&key_of(step))?;
-        let found = self.items.get(index as usize)?;
+        let steps = self.items.as_slice();
+        let index = *self.seen.get(table_place(step))?;
+        let found = steps.get(index as usize)?;
         if found == step { Some(index) } else { None }
+    }
+
+    /// Lets the table tell that this step stands there.
+    fn remember(&mut self, step: &Step, index: u32)
+        ensures { self.new ≡ self.old }
+    {
+        let place = table_place(step);
+        if place < self.seen.len() {
+            self.seen[place] = index;
+        }
     }
 }
 
-/// What the table is asked by.
-fn key_of(step: &Step) -> Key {
-    match step {
-        Step::Constant(word) => Key::Constant(word.value()),
-        Step::Joint(index) => Key::Joint(*index),
-        Step::Sum(left, right) => Key::Sum(*left, *right),
-        Step::Product(left, right) => Key::Product(*left, *right),
-    }
+/// Where the table is asked for a step: a number below `PLACES`, spread over all of them.
+fn table_place(step: &Step) -> usize {
+    let (kind, left, right) = match step {
+        Step::Constant(word) => (1, word.value(), 0),
+        Step::Joint(index) => (2, u64::from(*index), 0),
+        Step::Sum(left, right) => (3, u64::from(*left), u64::from(*right)),
+        Step::Product(left, right) => (4, u64::from(*left), u64::from(*right)),
+        Step::Power(base, exponent) => (5, u64::from(*base), u64::from(*exponent)),
+    };
+    let first = left.wrapping_add(kind).wrapping_mul(SPREAD);
+    let both = (first ^ right).wrapping_mul(SPREAD);
+    (both >> 48) as usize
 }

@@ -4,9 +4,9 @@ use Rattle.std.specs.List.{sum}
 use Rattle.std.proofs.lemmas.List.{take_all}
 use Rattle.flp_field.specs.Word.{modulus}
 use Rattle.flp_field.proofs.Congruence.{mod_word, word_mod}
-use Rattle.flp_gadget.specs.Formulas.{sum_over_groups, groups}
+use Rattle.flp_gadget.specs.Formulas.{sum_over_groups}
 use Rattle.flp_gadget.specs.LawProofs.{sum-more}
-use Rattle.flp_gadget.specs.KindTree.{KindTree, Mul, Poly, Psum, arity_of, degree_of, value_of, tree_over}
+use Rattle.flp_gadget.specs.KindTree.{KindTree, Mul, Poly, Psum, kind_arity, kind_degree, value_of, tree_over}
 use Rattle.flp_gadget.specs.FlatKind.{product_of, IsFlat}
 use Rattle.flp_gadget.proofs.GroupLemmas.{sum_over_groups-nested}
 
@@ -14,12 +14,12 @@ use Rattle.flp_gadget.proofs.GroupLemmas.{sum_over_groups-nested}
 grouped : (a b c : ℕ) → a * (b * c) ≡ a * b * c
 grouped a b c = omega arith
 
-pub arity-tree_over : (counts : List ℕ) (leaf : KindTree) → arity_of (tree_over counts leaf) ≡ product_of counts * arity_of leaf
+pub arity-tree_over : (counts : List ℕ) (leaf : KindTree) → kind_arity (tree_over counts leaf) ≡ product_of counts * kind_arity leaf
 arity-tree_over [] leaf = omega arith
 arity-tree_over (count ∷ counts) leaf =
-    ap (λ n. count * n) (arity-tree_over counts leaf) ∙ grouped count (product_of counts) (arity_of leaf)
+    ap (λ n. count * n) (arity-tree_over counts leaf) ∙ grouped count (product_of counts) (kind_arity leaf)
 
-pub degree-tree_over : (counts : List ℕ) (leaf : KindTree) → degree_of (tree_over counts leaf) ≡ degree_of leaf
+pub degree-tree_over : (counts : List ℕ) (leaf : KindTree) → kind_degree (tree_over counts leaf) ≡ kind_degree leaf
 degree-tree_over [] leaf = refl
 degree-tree_over (count ∷ counts) leaf = degree-tree_over counts leaf
 
@@ -39,31 +39,31 @@ single value size xs fits word =
     ∙ ap (λ l. (value l + sum [] % modulus) % modulus) (take_all size xs (omega arith))
     ∙ ap (λ n. n % modulus) none ∙ word_mod (value xs) word)
 
-pub value-tree_over : (counts : List ℕ) (leaf : KindTree) (xs : List ℕ) → length xs ≡ product_of counts * arity_of leaf
-    → value_of (tree_over counts leaf) xs ≡ sum_over_groups (value_of leaf) (arity_of leaf) (product_of counts) xs
+pub value-tree_over : (counts : List ℕ) (leaf : KindTree) (xs : List ℕ) → length xs ≡ product_of counts * kind_arity leaf
+    → value_of (tree_over counts leaf) xs ≡ sum_over_groups (value_of leaf) (kind_arity leaf) (product_of counts) xs
 value-tree_over [] leaf xs fits =
-    let one : length xs ≡ arity_of leaf = omega arith in
-    single (value_of leaf) (arity_of leaf) xs one (value-word leaf xs)
+    let one : length xs ≡ kind_arity leaf = omega arith in
+    single (value_of leaf) (kind_arity leaf) xs one (value-word leaf xs)
 value-tree_over (count ∷ counts) leaf xs fits =
     ap (λ size. sum_over_groups (value_of (tree_over counts leaf)) size count xs) (arity-tree_over counts leaf)
-    ∙ sum_over_groups-nested (value_of leaf) (value_of (tree_over counts leaf)) (arity_of leaf) (product_of counts)
+    ∙ sum_over_groups-nested (value_of leaf) (value_of (tree_over counts leaf)) (kind_arity leaf) (product_of counts)
     (λ ys size. value-tree_over counts leaf ys size) count xs
-    (fits ∙ sym (grouped count (product_of counts) (arity_of leaf)))
+    (fits ∙ sym (grouped count (product_of counts) (kind_arity leaf)))
 
 -- ---- what the flat form says of the tree
 
 pub flat-arity : (counts : List ℕ) (groups : ℕ) (leaf tree : KindTree) → IsFlat counts groups leaf
-    → tree_over counts leaf ≡ tree → groups * arity_of leaf ≡ arity_of tree
+    → tree_over counts leaf ≡ tree → groups * kind_arity leaf ≡ kind_arity tree
 flat-arity counts groups leaf tree flat same =
-    ap (λ n. n * arity_of leaf) flat.product ∙ sym (arity-tree_over counts leaf) ∙ ap arity_of same
+    ap (λ n. n * kind_arity leaf) flat.product ∙ sym (arity-tree_over counts leaf) ∙ ap kind_arity same
 
-pub flat-degree : (counts : List ℕ) (leaf tree : KindTree) → tree_over counts leaf ≡ tree → degree_of leaf ≡ degree_of tree
-flat-degree counts leaf tree same = sym (degree-tree_over counts leaf) ∙ ap degree_of same
+pub flat-degree : (counts : List ℕ) (leaf tree : KindTree) → tree_over counts leaf ≡ tree → kind_degree leaf ≡ kind_degree tree
+flat-degree counts leaf tree same = sym (degree-tree_over counts leaf) ∙ ap kind_degree same
 
 pub flat-value : (counts : List ℕ) (groups : ℕ) (leaf tree : KindTree) (xs : List ℕ) → IsFlat counts groups leaf
-    → tree_over counts leaf ≡ tree → length xs ≡ arity_of tree
-    → sum_over_groups (value_of leaf) (arity_of leaf) groups xs ≡ value_of tree xs
+    → tree_over counts leaf ≡ tree → length xs ≡ kind_arity tree
+    → sum_over_groups (value_of leaf) (kind_arity leaf) groups xs ≡ value_of tree xs
 flat-value counts groups leaf tree xs flat same fits =
-    ap (λ n. sum_over_groups (value_of leaf) (arity_of leaf) n xs) flat.product
-    ∙ sym (value-tree_over counts leaf xs (fits ∙ ap arity_of (sym same) ∙ arity-tree_over counts leaf))
+    ap (λ n. sum_over_groups (value_of leaf) (kind_arity leaf) n xs) flat.product
+    ∙ sym (value-tree_over counts leaf xs (fits ∙ ap kind_arity (sym same) ∙ arity-tree_over counts leaf))
     ∙ ap (λ t. value_of t xs) same

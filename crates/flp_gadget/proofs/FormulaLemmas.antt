@@ -9,7 +9,7 @@ use Rattle.flp_poly.specs.Polynomial.{poly_sum, poly_product}
 use Rattle.flp_poly.proofs.Products.{length-poly_sum, length-poly_product, get_or-poly_sum, get_or-poly_product}
 use Rattle.flp_gadget.specs.Formulas.{nested, composed, total_over_groups}
 use Rattle.flp_gadget.specs.LawProofs.{group_fits, rest_fits}
-use Rattle.flp_gadget.specs.KindTree.{KindTree, Mul, Poly, Psum, arity_of, degree_of, formula_of, HasParts, IsKind}
+use Rattle.flp_gadget.specs.KindTree.{KindTree, Mul, Poly, Psum, kind_arity, kind_degree, formula_of, HasParts, IsKind}
 
 -- ---- words
 
@@ -41,7 +41,7 @@ words-total formula size (suc count) ps some =
 words-parts : (tree : KindTree) (ps : List (List ℕ)) → HasParts tree → AreWords (formula_of tree ps)
 words-parts Mul ps parts = words-poly_product (get_or ps 0 []) (get_or ps 1 [])
 words-parts (Poly coeffs) ps parts = words-composed coeffs (get_or ps 0 []) parts.0
-words-parts (Psum sub count) ps parts = words-total (formula_of sub) (arity_of sub) count ps parts.0
+words-parts (Psum sub count) ps parts = words-total (formula_of sub) (kind_arity sub) count ps parts.0
 
 pub words-formula : (tree : KindTree) (ps : List (List ℕ)) → IsKind tree → AreWords (formula_of tree ps)
 words-formula tree ps kind = words-parts tree ps kind.parts
@@ -89,8 +89,8 @@ length-total formula size n k same (suc count) ps fits all =
     length-poly_sum (formula (take size ps)) (total_over_groups formula size count (drop size ps))
     ∙ ap₂ max first rest ∙ larger count k
 
-pub length-parts : (tree : KindTree) (ps : List (List ℕ)) (n : ℕ) → HasParts tree → length ps ≡ arity_of tree
-    → All (λ p. length p ≡ suc n) ps → length (formula_of tree ps) ≡ degree_of tree * n + 1
+pub length-parts : (tree : KindTree) (ps : List (List ℕ)) (n : ℕ) → HasParts tree → length ps ≡ kind_arity tree
+    → All (λ p. length p ≡ suc n) ps → length (formula_of tree ps) ≡ kind_degree tree * n + 1
 length-parts Mul ps n parts fits all =
     let left : length (get_or ps 0 []) ≡ suc n = all 0 [] (omega arith) in
     let right : length (get_or ps 1 []) ≡ suc n = all 1 [] (omega arith) in
@@ -101,14 +101,14 @@ length-parts (Poly coeffs) ps n parts fits all =
     length-composed coeffs (get_or ps 0 []) n parts.0 (all 0 [] (omega arith))
 length-parts (Psum sub count) ps n parts fits all =
     let some : min count 1 ≡ 1 = let at_least : 1 ≤ count = parts.0 in omega arith in
-    let once : 1 * (degree_of sub * n + 1) ≡ degree_of sub * n + 1 = omega arith in
-    length-total (formula_of sub) (arity_of sub) (suc n) (degree_of sub * n + 1)
+    let once : 1 * (kind_degree sub * n + 1) ≡ kind_degree sub * n + 1 = omega arith in
+    length-total (formula_of sub) (kind_arity sub) (suc n) (kind_degree sub * n + 1)
     (λ qs size sizes. length-parts sub qs n parts.1 size sizes) count ps fits all
-    ∙ ap (λ m. m * (degree_of sub * n + 1)) some ∙ once
+    ∙ ap (λ m. m * (kind_degree sub * n + 1)) some ∙ once
 
-pub length-formula : (tree : KindTree) (ps : List (List ℕ)) (n : ℕ) → IsKind tree → 1 ≤ n → length ps ≡ arity_of tree
-    → All (λ p. length p ≡ n) ps → length (formula_of tree ps) ≡ degree_of tree * (n - 1) + 1
+pub length-formula : (tree : KindTree) (ps : List (List ℕ)) (n : ℕ) → IsKind tree → 1 ≤ n → length ps ≡ kind_arity tree
+    → All (λ p. length p ≡ n) ps → length (formula_of tree ps) ≡ kind_degree tree * (n - 1) + 1
 length-formula tree ps zero kind some fits all = absurd (omega arith)
 length-formula tree ps (suc n) kind some fits all =
     let less : n ≡ suc n - 1 = omega arith in
-    length-parts tree ps n kind.parts fits all ∙ ap (λ k. degree_of tree * k + 1) less
+    length-parts tree ps n kind.parts fits all ∙ ap (λ k. kind_degree tree * k + 1) less

@@ -1,9 +1,9 @@
--- The lemmas of gadgets.
--- groups of one size, one after another
-pub mod GroupLemmas
+-- The lemmas of gadgets. Crates above cite those of `pub mod`.
+-- sums over groups of one size
+mod GroupLemmas
 -- kinds in their flat form
-pub mod FlatLemmas
+mod FlatLemmas
 -- the text of steps by which a kind is made
-pub mod TextLemmas
+mod TextLemmas
 -- the coefficients of a kind's formula
 pub mod FormulaLemmas

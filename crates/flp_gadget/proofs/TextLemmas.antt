@@ -4,7 +4,7 @@ use Rattle.std.specs.Option.{option_map, IsSomeAnd}
 use Rattle.std.proofs.lemmas.List.{at_drop_more}
 use Rattle.flp_gadget.specs.declared.kind_step.KindStep.{KindStep}
 use Rattle.flp_gadget.specs.declared.kind_step.KindStep.TheVariants.{Psum as PsumStep}
-use Rattle.flp_gadget.specs.KindTree.{KindTree, Psum, arity_of, tree_over, HasParts, IsKind}
+use Rattle.flp_gadget.specs.KindTree.{KindTree, Psum, kind_arity, tree_over, HasParts, IsKind}
 use Rattle.flp_gadget.specs.KindText.{tree_of}
 use Rattle.flp_gadget.specs.KindProofs.{some_input}
 use Rattle.flp_gadget.specs.FlatKind.{product_of}
@@ -46,10 +46,10 @@ parts-leaf (count ∷ counts) leaf parts = parts-leaf counts leaf parts.1
 
 few_groups : (counts : List ℕ) (leaf : KindTree) → IsKind (tree_over counts leaf) → product_of counts ≤ 1024
 few_groups counts leaf kind =
-    let some : 1 ≤ arity_of leaf = some_input leaf (parts-leaf counts leaf kind.parts) in
-    let more : product_of counts * 1 ≤ product_of counts * arity_of leaf = mul-le-mul (omega arith) some in
-    let all : arity_of (tree_over counts leaf) ≡ product_of counts * arity_of leaf = arity-tree_over counts leaf in
-    let few : arity_of (tree_over counts leaf) ≤ 1024 = kind.few_inputs in
+    let some : 1 ≤ kind_arity leaf = some_input leaf (parts-leaf counts leaf kind.parts) in
+    let more : product_of counts * 1 ≤ product_of counts * kind_arity leaf = mul-le-mul (omega arith) some in
+    let all : kind_arity (tree_over counts leaf) ≡ product_of counts * kind_arity leaf = arity-tree_over counts leaf in
+    let few : kind_arity (tree_over counts leaf) ≤ 1024 = kind.few_inputs in
     omega arith
 
 few_under : (counts : List ℕ) (rest : Option KindTree) → IsSomeAnd (under counts rest) IsKind → product_of counts ≤ 1024

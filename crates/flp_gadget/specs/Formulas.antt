@@ -1,6 +1,7 @@
 -- What the gadgets compute on words, and the same formulas on polynomials, which are lists of coefficients. From products up to sums over groups of inputs.
-use Rattle.std.specs.Prelude.{ℕ, zero, suc, ◌%◌, List, [], ◌∷◌, map, take, drop, get_or, slice_index, sum}
+use Rattle.std.specs.Prelude.{ℕ, ◌%◌, List, [], ◌∷◌, map, get_or, slice_index, sum}
 use Rattle.flp_field.specs.Word.{modulus, word_product}
+use Rattle.flp_field.specs.Sums.{parts_of}
 use Rattle.flp_poly.specs.Polynomial.{value_at, poly_sum, poly_product}
 
 -- the product of two inputs
@@ -29,14 +30,9 @@ composed (c ∷ cs) p = nested c cs p
 abbrev pub poly_formula : List ℕ → List (List ℕ) → List ℕ
 poly_formula cs ps = composed cs (get_or ps 0 [])
 
--- so many groups of one size, one after another from the front of a list
-abbrev pub groups : {A : Type 0} → ℕ → ℕ → List A → List (List A)
-groups size zero xs = []
-groups size (suc count) xs = take size xs ∷ groups size count (drop size xs)
-
 -- the sum of a gadget's values at each group of words
 abbrev pub sum_over_groups : (List ℕ → ℕ) → ℕ → ℕ → List ℕ → ℕ
-sum_over_groups value size count xs = sum (map value (groups size count xs)) % modulus
+sum_over_groups value size count xs = sum (map value (parts_of count size xs)) % modulus
 
 -- the sum of these polynomials
 abbrev pub poly_total : List (List ℕ) → List ℕ
@@ -45,4 +41,4 @@ poly_total (p ∷ ps) = poly_sum p (poly_total ps)
 
 -- the sum of what a gadget's formula gives at each group of polynomials
 abbrev pub total_over_groups : (List (List ℕ) → List ℕ) → ℕ → ℕ → List (List ℕ) → List ℕ
-total_over_groups formula size count ps = poly_total (map formula (groups size count ps))
+total_over_groups formula size count ps = poly_total (map formula (parts_of count size ps))

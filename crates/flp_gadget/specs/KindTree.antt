@@ -11,28 +11,28 @@ pub data KindTree : Type 0 where
   Psum : (sub : KindTree) → (count : ℕ) → KindTree
 
 -- the number of inputs
-abbrev pub arity_of : KindTree → ℕ
-arity_of Mul = 2
-arity_of (Poly coeffs) = 1
-arity_of (Psum sub count) = count * arity_of sub
+abbrev pub kind_arity : KindTree → ℕ
+kind_arity Mul = 2
+kind_arity (Poly coeffs) = 1
+kind_arity (Psum sub count) = count * kind_arity sub
 
 -- the degree, which counts each coefficient of a polynomial but one, also where the last of them is 0
-abbrev pub degree_of : KindTree → ℕ
-degree_of Mul = 2
-degree_of (Poly coeffs) = length coeffs - 1
-degree_of (Psum sub count) = degree_of sub
+abbrev pub kind_degree : KindTree → ℕ
+kind_degree Mul = 2
+kind_degree (Poly coeffs) = length coeffs - 1
+kind_degree (Psum sub count) = kind_degree sub
 
 -- the value at words
 abbrev pub value_of : KindTree → List ℕ → ℕ
 value_of Mul = product_value
 value_of (Poly coeffs) = poly_value coeffs
-value_of (Psum sub count) = sum_over_groups (value_of sub) (arity_of sub) count
+value_of (Psum sub count) = sum_over_groups (value_of sub) (kind_arity sub) count
 
 -- the same formula at polynomials
 abbrev pub formula_of : KindTree → List (List ℕ) → List ℕ
 formula_of Mul = product_formula
 formula_of (Poly coeffs) = poly_formula coeffs
-formula_of (Psum sub count) = total_over_groups (formula_of sub) (arity_of sub) count
+formula_of (Psum sub count) = total_over_groups (formula_of sub) (kind_arity sub) count
 
 -- each polynomial has 2 to 9 coefficients, and each count is at least 1
 abbrev pub HasParts : KindTree → Type 0
@@ -43,7 +43,7 @@ HasParts (Psum sub count) = (1 ≤ count) × HasParts sub
 -- what holds of every kind that a program has: it also has at most 1,024 inputs
 pub record IsKind (tree : KindTree) : Type 0 where
   pub parts : HasParts tree
-  pub few_inputs : arity_of tree ≤ 1024
+  pub few_inputs : kind_arity tree ≤ 1024
 
 -- ---- a tree as its counts, the outermost first, and its leaf
 

@@ -5,11 +5,12 @@ use Rattle.std.proofs.lemmas.List.{get_or_past, take-map, drop-map}
 use Rattle.std.proofs.lemmas.List.Elements.{All-take, All-drop}
 use Rattle.std.proofs.lemmas.List.Sums.{sum_by-cons}
 use Rattle.flp_field.specs.Word.{modulus}
+use Rattle.flp_field.specs.Sums.{parts_of}
 use Rattle.flp_field.proofs.Congruence.{Same, same_add, same_mul, same_mod}
 use Rattle.flp_poly.specs.Polynomial.{value_at, HasDegreeAtMost, poly_product}
 use Rattle.flp_poly.proofs.Horner.{horner, value_at-horner}
 use Rattle.flp_poly.proofs.Products.{value_at-poly_sum, value_at-poly_product, degree-poly_sum, degree-poly_product}
-use Rattle.flp_gadget.specs.Formulas.{product_value, product_formula, poly_value, poly_formula, nested, composed, groups, sum_over_groups, total_over_groups}
+use Rattle.flp_gadget.specs.Formulas.{product_value, product_formula, poly_value, poly_formula, nested, composed, sum_over_groups, total_over_groups}
 use Rattle.flp_gadget.specs.GadgetLaws.{FormulaHasValue, FormulaHasDegree, GadgetLaw, IsWithinLimits}
 
 -- ---- inputs
@@ -146,7 +147,7 @@ module _ (arity : ℕ) (value : List ℕ → ℕ) (formula : List (List ℕ) →
       (values_over_groups law count (drop arity ps) t (rest_fits arity count ps size)
       ∙ ap (λ (l : List ℕ). sum_over_groups value arity count l) (sym (drop-map (λ p. value_at p t) arity ps)))
       ∙ sum-more (value (take arity (map (λ p. value_at p t) ps)))
-      (map value (groups arity count (drop arity (map (λ p. value_at p t) ps))))
+      (map value (parts_of count arity (drop arity (map (λ p. value_at p t) ps))))
 
   pub degrees_over_groups : (degree : ℕ) → FormulaHasDegree arity degree formula → (count : ℕ)
       → FormulaHasDegree (count * arity) degree (total_over_groups formula arity count)

@@ -44,14 +44,14 @@ impl Model for Kind {
 }
 
 impl Gadget for Kind {
-    ghost use Rattle.flp_gadget.specs.KindTree.{arity_of, degree_of, value_of, formula_of, IsKind};
+    ghost use Rattle.flp_gadget.specs.KindTree.{kind_arity, kind_degree, value_of, formula_of, IsKind};
     ghost use Rattle.flp_gadget.specs.KindProofs.{law_of_kind, limits_of_kind};
 
     ghost valid = { IsKind };
 
-    ghost arity = { arity_of };
+    ghost arity = { kind_arity };
 
-    ghost degree = { degree_of };
+    ghost degree = { kind_degree };
 
     ghost value = { value_of };
 

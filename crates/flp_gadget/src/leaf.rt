@@ -12,15 +12,15 @@ pub(crate) enum Leaf {
 }
 
 impl Gadget for Leaf {
-    ghost use Rattle.flp_gadget.specs.KindTree.{arity_of, degree_of, value_of, formula_of};
+    ghost use Rattle.flp_gadget.specs.KindTree.{kind_arity, kind_degree, value_of, formula_of};
     ghost use Rattle.flp_gadget.specs.FlatKind.{leaf_tree};
     ghost use Rattle.flp_gadget.specs.KindProofs.{law_of_kind, limits_of_leaf};
 
     ghost valid = { λ _. Unit {0} };
 
-    ghost arity = { λ leaf. arity_of (leaf_tree leaf) };
+    ghost arity = { λ leaf. kind_arity (leaf_tree leaf) };
 
-    ghost degree = { λ leaf. degree_of (leaf_tree leaf) };
+    ghost degree = { λ leaf. kind_degree (leaf_tree leaf) };
 
     ghost value = { λ leaf. value_of (leaf_tree leaf) };
 

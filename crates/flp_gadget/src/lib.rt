@@ -33,6 +33,3 @@ pub use parallel_sum::ParallelSum;
 pub use poly_eval::PolyEval;
 /// Want of memory.
 pub use std::alloc::AllocError as Memory;
-
-#[cfg(test)]
-mod tests;

@@ -19,3 +19,7 @@ told_room (call ∷ calls) room = None
 -- the room that a sink over memory tells
 abbrev pub spare_of : SinkState → Option ℕ
 spare_of sink = told_room sink.fails sink.room
+
+-- how often it failed so far
+abbrev pub write_faults_of : SinkState → ℕ
+write_faults_of sink = sink.faults

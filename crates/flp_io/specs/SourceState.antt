@@ -9,3 +9,7 @@ pub record SourceState : Type 0 where
   pub fails : List ℕ
   pub calls : ℕ
   pub faults : ℕ
+
+-- how often it failed so far
+abbrev pub read_faults_of : SourceState → ℕ
+read_faults_of source = source.faults

@@ -1,6 +1,8 @@
--- What writes do to the bytes that a sink has taken and to its room, beside std's word `Appends`.
-use Rattle.std.specs.Prelude.{Option, ◌≡◌, ℕ, ◌-◌, ◌<◌, ◌≤◌, List, length, take, ⊤, None, Some, Result, IfOk, IsOk, IsOkAnd}
+-- What writes do to the bytes that a sink has taken and to its room, beside std's word `Appends`, up to all that a call
+-- says of the sink that it wrote a text to.
+use Rattle.std.specs.Prelude.{Option, ◌≡◌, ℕ, ◌-◌, ◌<◌, ◌≤◌, List, length, take, ⊤, None, Some, Result, IfOk, IsOk, IsOkAnd, IsErr, OnOk}
 use Rattle.std.specs.Io.KnownBytes.{Appends}
+use Rattle.flp_io.specs.Faults.{Uses}
 
 -- on `Ok(n)` at a piece with bytes, n is not 0
 abbrev pub TakesSome : {E : Type 0} → Result ℕ E → List ℕ → Type 0
@@ -28,3 +30,11 @@ WriteSpares old new result size = HasRoom old size → IsOkAnd result (λ n. Spe
 -- with room for the piece it is written, and spends all its size
 abbrev pub PutSpares : {T E : Type 0} → Option ℕ → Option ℕ → Result T E → ℕ → Type 0
 PutSpares old new result size = HasRoom old size → IsOk result × Spends old new size
+
+-- what a call did with the sink that it wrote a text to: at `Ok` it took the whole text, else a prefix of it, and the call
+-- failed; a told room suffices; how its faults were counted, and whether it may be written to again
+pub record WritesTo {K T E : Type 0} (taken : K → Option (List ℕ)) (faults : K → ℕ) (spare : K → Option ℕ) (ready : K → Type 0) (old new : K) (text : List ℕ) (result : Result T E) : Type 0 where
+  pub whole : OnOk result (Appends (taken old) (taken new) text)
+  pub front : TakesPrefix (taken old) (taken new) text
+  pub room : PutSpares (spare old) (spare new) result (length text)
+  pub uses : Uses faults ready old new (IsErr result) (IsOk result)

@@ -1,10 +1,11 @@
 // std's readers and writers as sources and sinks: the edge to the outside, whose behaviour std
 // states.
-ghost use Rattle.std.specs.Prelude.{◌≡◌, None, if◌then◌else◌, is_err, length};
+ghost use Rattle.std.specs.Prelude.{◌≡◌, None, if◌then◌else◌, is_err, length, IsErr, IsOk};
 ghost use Rattle.std.specs.Io.{ReadsAtMost, WritesAtMost};
 ghost use Rattle.std.specs.Io.KnownBytes.{ReadConsumes, WriteAppends};
 ghost use Rattle.flp_io.specs.Adapters.{reader_of, read_faults, writer_of, write_faults};
-ghost use Rattle.flp_io.specs.Faults.{risen, HasCause};
+ghost use Rattle.flp_io.specs.Faults.{next_count, Uses, always_ready};
+ghost use Rattle.flp_io.specs.Reads.{ReadsOn};
 ghost use Rattle.flp_io.specs.Writes.{TakesSome, WriteSpares};
 
 use crate::{Failed, Sink, Source};
@@ -33,13 +34,15 @@ impl<R: Read> Source for ReaderSource<R> {
 
     ghost faults = { read_faults };
 
+    ghost ready = { always_ready };
+
     fn read(&mut self, buf: &mut [u8]) -> Result<usize, Failed>
         ensures bound { ReadsAtMost result buf.new }
         ensures bytes { ReadConsumes (R.remaining (reader_of self.old))
             (R.remaining (reader_of self.new)) result buf.new }
-        ensures cause { HasCause (read_faults self.old) (read_faults self.new) result }
+        ensures uses { Uses read_faults always_ready self.old self.new (IsErr result) (ReadsOn result buf.new) }
         ensures exact { read_faults self.new
-            ≡ (if is_err result then risen (read_faults self.old) else read_faults self.old) }
+            ≡ (if is_err result then next_count (read_faults self.old) else read_faults self.old) }
     {
         match self.reader.read(buf) {
             Ok(count) => Ok(count),
@@ -77,15 +80,17 @@ impl<W: Write> Sink for WriterSink<W> {
 
     ghost spare = { λ _. None };
 
+    ghost ready = { always_ready };
+
     fn write(&mut self, piece: &[u8]) -> Result<usize, Failed>
         ensures bound { WritesAtMost result piece.now }
         ensures some { TakesSome result piece.now }
         ensures bytes { WriteAppends (W.contents (writer_of self.old))
             (W.contents (writer_of self.new)) result piece.now }
         ensures room { WriteSpares None None result (length piece.now) }
-        ensures cause { HasCause (write_faults self.old) (write_faults self.new) result }
+        ensures uses { Uses write_faults always_ready self.old self.new (IsErr result) (IsOk result) }
         ensures exact { write_faults self.new
-            ≡ (if is_err result then risen (write_faults self.old) else write_faults self.old) }
+            ≡ (if is_err result then next_count (write_faults self.old) else write_faults self.old) }
     {
         match self.writer.write(piece) {
             Ok(count) if 0 < count || piece.is_empty() => Ok(count),

@@ -1,10 +1,12 @@
 // A source and a sink over memory, which fail at chosen calls: fakes for tests of what reads and
 // writes.
-ghost use Rattle.std.specs.Prelude.{◌≡◌, ◌+◌, ◌||◌, ◌≤◌, ℕ, [], Some, if◌then◌else◌, is_err, length, max, min, nat_lt, IfOk, IsOk, MatchResult, OnErr, OnOk};
+ghost use Rattle.std.specs.Prelude.{◌≡◌, ◌+◌, ◌||◌, ◌≤◌, ℕ, [], Some, if◌then◌else◌, is_err, length, max, min, nat_lt, IfOk, IsErr, IsOk, MatchResult, OnErr, OnOk};
 ghost use Rattle.std.specs.Io.{ReadsAtMost, WritesAtMost};
 ghost use Rattle.std.specs.Io.KnownBytes.{ReadConsumes, WriteAppends};
-ghost use Rattle.flp_io.specs.Faults.{risen, is_chosen, HasCause};
-ghost use Rattle.flp_io.specs.SinkState.{spare_of};
+ghost use Rattle.flp_io.specs.Faults.{next_count, is_chosen, Uses, always_ready};
+ghost use Rattle.flp_io.specs.Reads.{ReadsOn};
+ghost use Rattle.flp_io.specs.SinkState.{spare_of, write_faults_of};
+ghost use Rattle.flp_io.specs.SourceState.{read_faults_of};
 ghost use Rattle.flp_io.specs.Writes.{TakesSome, WriteSpares};
 
 use crate::copies::copy_front;
@@ -65,12 +67,14 @@ impl MemorySource {
 impl Source for MemorySource {
     ghost left = { λ s. Some s.left };
 
-    ghost faults = { λ s. s.faults };
+    ghost faults = { read_faults_of };
+
+    ghost ready = { always_ready };
 
     fn read(&mut self, buf: &mut [u8]) -> Result<usize, Failed>
         ensures bound { ReadsAtMost result buf.new }
         ensures bytes { ReadConsumes (Some self.old.left) (Some self.new.left) result buf.new }
-        ensures cause { HasCause self.old.faults self.new.faults result }
+        ensures uses { Uses read_faults_of always_ready self.old self.new (IsErr result) (ReadsOn result buf.new) }
 
         // As many bytes as there are, the step allows and the buffer holds; a fault exactly where
         // one was chosen.
@@ -78,9 +82,9 @@ impl Source for MemorySource {
             (λ n. n ≡ min (min (length self.old.left) self.old.step) (length buf.new)) }
         ensures exact { is_err result ≡ is_chosen self.old.fails self.old.calls }
 
-        ensures calls { self.new.calls ≡ risen self.old.calls }
+        ensures calls { self.new.calls ≡ next_count self.old.calls }
         ensures faults { self.new.faults
-            ≡ (if is_err result then risen self.old.faults else self.old.faults) }
+            ≡ (if is_err result then next_count self.old.faults else self.old.faults) }
         ensures no_fault { self.old.fails ≡ [] → IsOk result × (self.new.faults ≡ self.old.faults) }
         ensures settings { (self.new.step ≡ self.old.step) × (self.new.fails ≡ self.old.fails) }
     {
@@ -178,9 +182,11 @@ impl MemorySink {
 impl Sink for MemorySink {
     ghost taken = { λ s. Some s.taken };
 
-    ghost faults = { λ s. s.faults };
+    ghost faults = { write_faults_of };
 
     ghost spare = { spare_of };
+
+    ghost ready = { always_ready };
 
     fn write(&mut self, piece: &[u8]) -> Result<usize, Failed>
         ensures bound { WritesAtMost result piece.now }
@@ -188,7 +194,7 @@ impl Sink for MemorySink {
         ensures bytes { WriteAppends (Some self.old.taken) (Some self.new.taken) result piece.now }
         ensures room { WriteSpares (spare_of self.old) (spare_of self.new) result
             (length piece.now) }
-        ensures cause { HasCause self.old.faults self.new.faults result }
+        ensures uses { Uses write_faults_of always_ready self.old self.new (IsErr result) (IsOk result) }
 
         // As many bytes as the step allows; a fault exactly where one was chosen or the piece is
         // longer than the room.
@@ -198,9 +204,9 @@ impl Sink for MemorySink {
 
         ensures left_room { MatchResult result
             (λ n. self.new.room + n ≡ self.old.room) (λ _. self.new.room ≡ self.old.room) }
-        ensures calls { self.new.calls ≡ risen self.old.calls }
+        ensures calls { self.new.calls ≡ next_count self.old.calls }
         ensures faults { self.new.faults
-            ≡ (if is_err result then risen self.old.faults else self.old.faults) }
+            ≡ (if is_err result then next_count self.old.faults else self.old.faults) }
         ensures settings { (self.new.step ≡ self.old.step) × (self.new.fails ≡ self.old.fails) }
     {
         let call = self.calls;

@@ -1,8 +1,9 @@
 // A source over memory that never fails.
-ghost use Rattle.std.specs.Prelude.{◌≡◌, Ok, Some, length, min};
+ghost use Rattle.std.specs.Prelude.{◌≡◌, Ok, Some, length, min, IsErr};
 ghost use Rattle.std.specs.Io.{ReadsAtMost};
 ghost use Rattle.std.specs.Io.KnownBytes.{ReadConsumes};
-ghost use Rattle.flp_io.specs.Faults.{HasCause};
+ghost use Rattle.flp_io.specs.Faults.{Uses, always_ready};
+ghost use Rattle.flp_io.specs.Reads.{ReadsOn};
 
 use crate::copies::copy_front;
 use crate::{Failed, Source};
@@ -39,10 +40,12 @@ impl Source for SureSource {
 
     ghost faults = { λ _. 0 };
 
+    ghost ready = { always_ready };
+
     fn read(&mut self, buf: &mut [u8]) -> Result<usize, Failed>
         ensures bound { ReadsAtMost result buf.new }
         ensures bytes { ReadConsumes (Some self.old) (Some self.new) result buf.new }
-        ensures cause { HasCause 0 0 result }
+        ensures uses { Uses (λ _. 0) always_ready self.old self.new (IsErr result) (ReadsOn result buf.new) }
 
         // As many bytes as there are and the buffer holds.
         ensures count { result ≡ Ok (min (length self.old) (length buf.new)) }

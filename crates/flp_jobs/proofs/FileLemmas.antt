@@ -5,22 +5,22 @@ use Rattle.std.specs.Io.KnownBytes.{Consumes, IsAtEnd}
 use Rattle.std.proofs.KnownBytes.{Consumes-trans, Consumes-whole}
 use Rattle.flp_load.specs.declared.fault.LoadFault.{LoadFault}
 use Rattle.flp_load.specs.declared.fault.LoadFault.TheVariants as load
-use Rattle.flp_load.specs.declared.fault.CircuitFault.{CircuitFault}
 use Rattle.flp_load.specs.Loaded.{IsLoaded}
 use Rattle.flp_load.specs.Fault.{IsLoadFault, IsCircuitFault}
 use Rattle.flp_report.specs.declared.fault.BatchFault.{BatchFault}
 use Rattle.flp_report.specs.declared.fault.BatchFault.TheVariants.{Trailing}
 use Rattle.flp_report.specs.declared.fault.ReadFault.{ReadFault}
 use Rattle.flp_report.specs.declared.fault.ReadFault.TheVariants as read
-use Rattle.flp_report.specs.declared.job_shape.JobHeader.{JobHeader}
+use Rattle.flp_report.specs.declared.header.Header.{Header}
+use Rattle.flp_report.specs.declared.header.JobHeader.{JobHeader}
 use Rattle.flp_report.specs.declared.job_shape.JobShape.{JobShape}
 use Rattle.flp_report.specs.declared.job.Jobs.{Jobs}
 use Rattle.flp_report.specs.declared.job.Job.{Job}
 use Rattle.flp_report.specs.Fault.{IfBatch}
 use Rattle.flp_report.specs.Head.{head_fault, number_at}
 use Rattle.flp_report.specs.Pieces.{pieces}
-use Rattle.flp_report.specs.Job.{job_letters, job_bytes_of, job_large_fault, jobs_fault, word_fault, jobs_of, IsJobHead}
-use Rattle.flp_report.specs.Reads.{ConsumesAtMost}
+use Rattle.flp_report.specs.Job.{job_letters, job_bytes_of, job_file_size, made_header, job_large_fault, jobs_fault, job_fault_of, word_fault, jobs_of, IsJobHead}
+use Rattle.flp_io.specs.Reads.{ConsumesAtMost}
 use Rattle.flp_report.specs.JobParts.{jobs_shape, jobs_count, jobs_bytes, jobs_in, job_of, job_shape_of}
 use Rattle.flp_report.proofs.HeadLemmas.{length-text}
 use Rattle.flp_report.proofs.JobHeadLemmas.{job_head-more, job_header_of-more, job_fault-shape, job_fault-jobs, jobs_of-more, job_says}
@@ -28,89 +28,37 @@ use Rattle.flp_report.proofs.PartFaultLemmas.{jobs_fault-trailing, jobs_fault-wo
 use Rattle.flp_report.proofs.KnownLemmas.{IfSome-consumed, IfSome-before, IfSome-map}
 use Rattle.flp_report.proofs.ReadsLemmas.{ConsumesAtMost-after}
 use Rattle.flp_report.proofs.PiecesLemmas.{IsCut-pieces}
-use Rattle.flp_jobs.specs.declared.fault.ProveFault.TheVariants.{File, Circuit}
+use Rattle.flp_batch.specs.declared.fault.EngineFault.TheVariants.{Batch, Circuit}
+use Rattle.flp_jobs.specs.declared.file.JobFront.{JobFront}
 use Rattle.flp_jobs.specs.declared.file.JobFile.{JobFile}
-use Rattle.flp_jobs.specs.Fault.{fault_from, fault_of_text, IfInput}
-use Rattle.flp_jobs.specs.Setting.{JobSetting, IsJobShapeOf}
-use Rattle.flp_jobs.specs.File.{HasSetting, IsTextFault, IsFileFault}
-use Rattle.flp_jobs.specs.Record.{made_header}
-use Rattle.flp_jobs.specs.Reading.{IsRefusedBehind, setting_of, Reads, IsWhole, IsJobOf}
+use Rattle.flp_batch.specs.Fault.{fault_from, fault_of_text, IfFile}
+use Rattle.flp_batch.specs.JobSetting.{JobSetting, IsJobShapeBehind}
+use Rattle.flp_batch.specs.Format.{job_files}
+use Rattle.flp_batch.specs.File.{HasSetting, IsFault, TakesFile, TakesFew}
+use Rattle.flp_report.specs.Job.{made_header}
+use Rattle.flp_jobs.specs.Reading.{setting_behind, OpensJobs, IsRefusedBehind, Reads, IsWhole, IsJobOf}
 use Rattle.flp_jobs.proofs.PlaceLemmas.{words-good}
-use Rattle.flp_jobs.specs.Reply.{IsRefusal, TakesFile, TakesFew, size_of}
 
--- where the jobs begin
-pub length-job_head : (front : List ℕ) (header : JobHeader) → IsJobHead front header → length front ≡ 28 + length header.text
-length-job_head front header head = length-text 28 front header.text head.size (ap (λ (h : JobHeader). h.text) head.same)
+-- ---- a fault in front of the jobs
 
--- the setting of a file that begins with a head whose text is loaded
-pub HasSetting-more : (front rest : List ℕ) (header : JobHeader) (by : JobSetting)
-    → IsJobHead front header → IsLoaded header.text by.params by.circuit → IsJobShapeOf header by.params by.circuit by.shape → HasSetting (front ++ rest) by
-HasSetting-more front rest header by head text fits =
-    let P : JobHeader → Type 0 = λ h. IsLoaded h.text by.params by.circuit in
-    let Q : JobHeader → Type 0 = λ h. IsJobShapeOf h by.params by.circuit by.shape in
-    let same = sym (job_header_of-more front rest header head) in
-    record { head = job_head-more front rest header head; text = subst P same text; shape = subst Q same fits }
-
--- ---- faults
-
--- a fault of the head
+-- of the head
 pub head-refused : (left : Option (List ℕ)) (fault : ReadFault)
     → IfBatch fault (λ b. IfSome left (λ bytes. head_fault job_letters 28 None bytes ≡ Some b))
-    → IfInput (fault_from fault) (λ f. IfSome left (λ bytes. IsRefusal bytes f))
+    → IfFile (fault_from fault) (λ f. IfSome left (λ bytes. IsFault job_files bytes f))
 head-refused left read.Memory is = tt
 head-refused left read.Failed is = tt
 head-refused left (read.Batch b) is =
-    IfSome-map (λ bytes. head_fault job_letters 28 None bytes ≡ Some b) (λ bytes. IsRefusal bytes (File b)) left (λ bytes found. inl found) is
+    IfSome-map (λ bytes. head_fault job_letters 28 None bytes ≡ Some b) (λ bytes. IsFault job_files bytes (Batch b)) left (λ bytes found. inl found) is
 
--- a fault of the text
-text-fault : (front rest : List ℕ) (header : JobHeader) (fault : CircuitFault) → IsJobHead front header → IsCircuitFault header.text fault → IsTextFault (front ++ rest) fault
-text-fault front rest header fault head text =
-    let P : JobHeader → Type 0 = λ h. IsCircuitFault h.text fault in
-    record { head = job_head-more front rest header head; text = subst P (sym (job_header_of-more front rest header head)) text }
-
+-- of the text
 pub text-refused : (left mid : Option (List ℕ)) (front : List ℕ) (header : JobHeader) (fault : LoadFault)
     → Consumes left mid front → IsJobHead front header → IsLoadFault header.text fault
-    → IfInput (fault_of_text fault) (λ f. IfSome left (λ bytes. IsRefusal bytes f))
+    → IfFile (fault_of_text fault) (λ f. IfSome left (λ bytes. IsFault job_files bytes f))
 text-refused left mid front header load.Memory gone head is = tt
 text-refused left mid front header (load.Circuit fault) gone head is =
-    IfSome-consumed (λ bytes. IsRefusal bytes (Circuit fault)) left mid front gone (λ rest. text-fault front rest header fault head is)
-
--- a size above its limit
-shape-fault : (front rest : List ℕ) (header : JobHeader) (by : JobSetting) (fault : BatchFault)
-    → IsJobHead front header → IsLoaded header.text by.params by.circuit → IsJobShapeOf header by.params by.circuit by.shape
-    → job_large_fault by.shape (length front) header.jobs ≡ Some fault → IsFileFault (front ++ rest) fault
-shape-fault front rest header by fault head text fits is =
-    inr (record { setting = by; has = HasSetting-more front rest header by head text fits; is = job_fault-shape by.shape front rest header fault head is })
-
--- a fault of the jobs
-jobs-fault : (front rest : List ℕ) (header : JobHeader) (by : JobSetting) (fault : BatchFault)
-    → IsJobHead front header → IsLoaded header.text by.params by.circuit → IsJobShapeOf header by.params by.circuit by.shape
-    → job_large_fault by.shape (length front) header.jobs ≡ None → jobs_fault by.shape (length front) header.jobs rest ≡ Some fault → IsFileFault (front ++ rest) fault
-jobs-fault front rest header by fault head text fits small is =
-    inr (record {
-      setting = by;
-      has = HasSetting-more front rest header by head text fits;
-      is = job_fault-jobs by.shape front rest header head small ∙ is;
-    })
-
--- a fault behind the text
-pub jobs-refused : (left mid : Option (List ℕ)) (front : List ℕ) (header : JobHeader) (by : JobSetting) (place : ℕ) (fault : ReadFault)
-    → Consumes left mid front → IsJobHead front header → IsLoaded header.text by.params by.circuit → IsJobShapeOf header by.params by.circuit by.shape
-    → place ≡ 28 + length header.text → IfBatch fault (IsRefusedBehind by.shape place header.jobs mid)
-    → IfInput (fault_from fault) (λ f. IfSome left (λ bytes. IsRefusal bytes f))
-jobs-refused left mid front header by place read.Memory gone head text fits at is = tt
-jobs-refused left mid front header by place read.Failed gone head text fits at is = tt
-jobs-refused left mid front header by place (read.Batch b) gone head text fits at is =
-    let size : place ≡ length front = at ∙ sym (length-job_head front header head) in
-    let L : Option BatchFault → ℕ → Type 0 = λ o n. job_large_fault by.shape n header.jobs ≡ o in
-    ⊎_elim
-    (λ large. IfSome-consumed (λ bytes. IsRefusal bytes (File b)) left mid front gone
-    (λ rest. shape-fault front rest header by b head text fits (subst (L (Some b)) size large)))
-    (λ among.
-    let small = subst (L None) size among.0 in
-    IfSome-before (λ bytes. IsRefusal bytes (File b)) (λ rest. jobs_fault by.shape place header.jobs rest ≡ Some b) left mid front gone among.1
-    (λ rest found. jobs-fault front rest header by b head text fits small (ap (λ (n : ℕ). jobs_fault by.shape n header.jobs rest) (sym size) ∙ found)))
-    is
+    let P : JobHeader → Type 0 = λ h. IsCircuitFault h.text fault in
+    IfSome-consumed (λ bytes. IsFault job_files bytes (Circuit fault)) left mid front gone
+    (λ rest. record { head = job_head-more front rest header head; text = subst P (sym (job_header_of-more front rest header head)) is })
 
 -- ---- the jobs
 
@@ -130,35 +78,89 @@ some-byte : (rest : List ℕ) → rest ≢ [] → 1 ≤ length rest
 some-byte [] some = absurd (some refl)
 some-byte (b ∷ rest) some = omega arith
 
--- ---- what was read
+-- ---- behind what was opened
 
-pub Reads-from : (left mid left' : Option (List ℕ)) (front : List ℕ) (header : JobHeader) (file : JobFile) (place : ℕ)
-    → Consumes left mid front → IsJobHead front header → IsLoaded header.text file.loaded.params file.loaded.plan.circuit
-    → IsJobShapeOf header file.loaded.params file.loaded.plan.circuit file.shape → file.header ≡ made_header header
-    → place ≡ 28 + length header.text → job_large_fault file.shape place header.jobs ≡ None
-    → Consumes mid left' (jobs_bytes file.jobs) → IsAtEnd left' → jobs_shape file.jobs ≡ file.shape → jobs_count file.jobs ≡ header.jobs
-    → word_fault file.shape 0 (jobs_in file.jobs) ≡ None → Reads left left' file
-Reads-from left mid left' front header file place gone head text fits made at small read ended shape count words =
-    let by = setting_of file in
-    let jobs = jobs_bytes file.jobs in
-    let size : place ≡ length front = at ∙ sym (length-job_head front header head) in
-    let L : ℕ → Type 0 = λ n. job_large_fault file.shape n header.jobs ≡ None in
-    let whole : length jobs ≡ header.jobs * job_bytes_of file.shape = length-jobs file.jobs file.shape header.jobs shape count in
-    let same : jobs_in file.jobs ≡ pieces (job_bytes_of file.shape) header.jobs jobs = jobs-same file.jobs file.shape header.jobs shape count in
-    let bare : front ++ (jobs ++ []) ≡ front ++ jobs = ap (λ (b : List ℕ). front ++ b) (append-nil jobs) in
-    record {
-      bytes = front ++ jobs;
-      read = Consumes-trans left mid left' front jobs gone read;
-      ended = ended;
-      is_file = record {
-        has = HasSetting-more front jobs header by head text fits;
-        no_fault = job_fault-jobs file.shape front jobs header head (subst L size small)
-            ∙ (jobs_fault-words file.shape (length front) header.jobs jobs whole
-            ∙ (ap (λ (l : List (List ℕ)). word_fault file.shape 0 l) (sym same) ∙ words));
-      };
-      header = ap made_header (job_header_of-more front jobs header head) ∙ sym made;
-      jobs = ap (jobs_of file.shape) (sym bare) ∙ (jobs_of-more file.shape front jobs [] header head whole ∙ sym same);
-    }
+module _ (left mid : Option (List ℕ)) (front : JobFront) (o : OpensJobs left mid front) where
+  abbrev by : JobSetting
+  by = setting_behind front
+
+  -- where the jobs begin
+  start : 28 + length front.header.text ≡ length o.bytes
+  start = sym (length-text 28 o.bytes front.header.text o.head.size (ap (λ (h : JobHeader). h.text) o.head.same))
+
+  -- a file that begins with what was opened has its setting
+  behind : (rest : List ℕ) → HasSetting job_files (o.bytes ++ rest) by.params by
+  behind rest =
+      let P : JobHeader → Type 0 = λ h. IsLoaded h.text by.params by.circuit in
+      let Q : JobHeader → Type 0 = λ h. IsJobShapeBehind h by.params by.circuit by.shape in
+      let same = sym (job_header_of-more o.bytes rest front.header o.head) in
+      record { head = job_head-more o.bytes rest front.header o.head; text = subst P same o.text; fits = record { params_are = refl; shape = subst Q same o.shape } }
+
+  -- a fault there: a size above its limit, or one of the jobs
+  fault-behind : (rest : List ℕ) (b : BatchFault) → job_fault_of by.shape (o.bytes ++ rest) ≡ Some b → IsFault job_files (o.bytes ++ rest) (Batch b)
+  fault-behind rest b is = inr (record { params = by.params; setting = by; has = behind rest; is = is })
+
+  abbrev Refused : ReadFault → Type 0
+  Refused fault = IfFile (fault_from fault) (λ f. IfSome left (λ bytes. IsFault job_files bytes f))
+
+  refused-at : (fault : ReadFault) → IfBatch fault (IsRefusedBehind by.shape (length o.bytes) front.header.jobs mid) → Refused fault
+  refused-at read.Memory is = tt
+  refused-at read.Failed is = tt
+  refused-at (read.Batch b) is =
+      ⊎_elim
+      (λ large. IfSome-consumed (λ bytes. IsFault job_files bytes (Batch b)) left mid o.bytes o.read
+      (λ rest. fault-behind rest b (job_fault-shape by.shape o.bytes rest front.header b o.head large)))
+      (λ among. IfSome-before (λ bytes. IsFault job_files bytes (Batch b)) (λ rest. jobs_fault by.shape (length o.bytes) front.header.jobs rest ≡ Some b) left mid o.bytes o.read among.1
+      (λ rest found. fault-behind rest b (job_fault-jobs by.shape o.bytes rest front.header o.head among.0 ∙ found)))
+      is
+
+  pub jobs-refused : (place count : ℕ) (fault : ReadFault) → place ≡ 28 + length front.header.text → count ≡ front.header.jobs
+      → IfBatch fault (IsRefusedBehind by.shape place count mid) → Refused fault
+  jobs-refused place count fault at number is =
+      let P : ℕ → Type 0 = λ n. IfBatch fault (IsRefusedBehind by.shape n count mid) in
+      let Q : ℕ → Type 0 = λ n. IfBatch fault (IsRefusedBehind by.shape (length o.bytes) n mid) in
+      refused-at fault (subst Q number (subst P (at ∙ start) is))
+
+  -- the whole file
+  pub Reads-from : (left' : Option (List ℕ)) (header : Header) (jobs : Jobs) (place count : ℕ)
+      → place ≡ 28 + length front.header.text → count ≡ front.header.jobs → header ≡ made_header front.header → job_large_fault by.shape place count ≡ None
+      → Consumes mid left' (jobs_bytes jobs) → IsAtEnd left' → jobs_shape jobs ≡ by.shape → jobs_count jobs ≡ count
+      → word_fault by.shape 0 (jobs_in jobs) ≡ None → Reads left left' (record { header = header; loaded = front.loaded; shape = front.shape; jobs = jobs })
+  Reads-from left' header jobs place count at number made small read ended shape many words =
+      let bytes = jobs_bytes jobs in
+      let same-count : jobs_count jobs ≡ front.header.jobs = many ∙ number in
+      let fits : job_large_fault by.shape (length o.bytes) front.header.jobs ≡ None =
+      subst (λ (n : ℕ). job_large_fault by.shape (length o.bytes) n ≡ None) number (subst (λ (n : ℕ). job_large_fault by.shape n count ≡ None) (at ∙ start) small) in
+      let whole : length bytes ≡ front.header.jobs * job_bytes_of by.shape = length-jobs jobs by.shape front.header.jobs shape same-count in
+      let same : jobs_in jobs ≡ pieces (job_bytes_of by.shape) front.header.jobs bytes = jobs-same jobs by.shape front.header.jobs shape same-count in
+      let bare : o.bytes ++ (bytes ++ []) ≡ o.bytes ++ bytes = ap (λ (b : List ℕ). o.bytes ++ b) (append-nil bytes) in
+      record {
+        bytes = o.bytes ++ bytes;
+        read = Consumes-trans left mid left' o.bytes bytes o.read read;
+        ended = ended;
+        is_file = record {
+          has = behind bytes;
+          no_fault = job_fault-jobs by.shape o.bytes bytes front.header o.head fits
+              ∙ (jobs_fault-words by.shape (length o.bytes) front.header.jobs bytes whole
+              ∙ (ap (λ (l : List (List ℕ)). word_fault by.shape 0 l) (sym same) ∙ words));
+        };
+        header = ap made_header (job_header_of-more o.bytes bytes front.header o.head) ∙ sym made;
+        jobs = ap (jobs_of by.shape) (sym bare) ∙ (jobs_of-more by.shape o.bytes bytes [] front.header o.head whole ∙ sym same);
+      }
+
+  -- no more bytes are taken than the head gives
+  pub few-jobs : (left' : Option (List ℕ)) (count : ℕ) → count ≡ front.header.jobs → ConsumesAtMost (count * job_bytes_of by.shape + 1) mid left' → TakesFew job_files left left'
+  few-jobs left' count number few =
+      inr (IfSome-consumed (TakesFile job_files left left') left mid o.bytes o.read
+      (λ rest.
+      let says = job_says o.bytes rest front.header o.head in
+      let many : count * job_bytes_of by.shape ≡ number_at 24 (o.bytes ++ rest) * job_bytes_of by.shape = ap (λ (n : ℕ). n * job_bytes_of by.shape) (number ∙ sym says.jobs) in
+      record {
+        params = by.params;
+        setting = by;
+        has = behind rest;
+        few = ConsumesAtMost-after left mid left' o.bytes (count * job_bytes_of by.shape + 1) (job_file_size by.shape (o.bytes ++ rest) + 1) o.read few (omega (arith, many, says.text));
+      }))
 
 -- ---- what the end of the input answers behind jobs
 
@@ -198,23 +200,6 @@ end-refused r (read.Batch b) shape place count left mid jobs gone same number sm
           ∙ (ap (λ (s : JobShape). word_fault s 0 (jobs_in jobs)) (sym same)
           ∙ (bad.3 ∙ ap Some (sym last))))),
     )
-
--- ---- how many bytes are asked for
-
--- what the jobs take behind a head
-pub few-jobs : (left mid left' : Option (List ℕ)) (front : List ℕ) (header : JobHeader) (by : JobSetting) (count : ℕ)
-    → Consumes left mid front → IsJobHead front header → IsLoaded header.text by.params by.circuit → IsJobShapeOf header by.params by.circuit by.shape
-    → count ≡ header.jobs → ConsumesAtMost (count * job_bytes_of by.shape + 1) mid left' → TakesFew left left'
-few-jobs left mid left' front header by count gone head text fits number few =
-    inr (IfSome-consumed (TakesFile left left') left mid front gone
-    (λ rest.
-    let says = job_says front rest header head in
-    let many : count * job_bytes_of by.shape ≡ number_at 24 (front ++ rest) * job_bytes_of by.shape = ap (λ (n : ℕ). n * job_bytes_of by.shape) (number ∙ sym says.jobs) in
-    record {
-      setting = by;
-      has = HasSetting-more front rest header by head text fits;
-      few = ConsumesAtMost-after left mid left' front (count * job_bytes_of by.shape + 1) (size_of by.shape (front ++ rest) + 1) gone few (omega (arith, many, says.text));
-    }))
 
 -- ---- the jobs of a file that was read
 

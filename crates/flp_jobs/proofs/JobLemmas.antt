@@ -1,28 +1,19 @@
 -- The parts of a job: how long they are, and that they hold words of the field.
-use Rattle.std.proofs.Common.{◌≡◌, ℕ, ◌+◌, ◌-◌, ◌*◌, ◌<◌, ◌≤◌, List, [], ◌∷◌, length, take, drop, Some, None, true, false, nat_le, if◌then◌else◌, Bool, refl, sym, ap, ap₂, subst, ◌∙◌, ⊎_elim, arith}
-use Rattle.std.specs.List.{All, position_from}
-use Rattle.std.proofs.lemmas.Bool.{cases_Bool, leb-false}
+use Rattle.std.proofs.Common.{◌≡◌, ℕ, ◌+◌, ◌-◌, ◌*◌, ◌<◌, ◌≤◌, List, length, take, drop, None, true, false, if◌then◌else◌, Bool, refl, sym, ap, ap₂, subst, ◌∙◌, arith}
+use Rattle.std.specs.List.{All}
 use Rattle.std.proofs.lemmas.List.{drop-drop}
-use Rattle.std.proofs.lemmas.List.Elements.{All-nil, All-cons, All-take, All-drop}
-use Rattle.flp_field.specs.Word.{modulus, IsWord}
+use Rattle.std.proofs.lemmas.List.Elements.{All-take, All-drop}
+use Rattle.flp_field.specs.Word.{IsWord}
+use Rattle.flp_field.proofs.WordLists.{words-from}
 use Rattle.flp_meaning.proofs.PartLemmas.{length-words_at}
 use Rattle.flp_report.specs.declared.job_shape.JobShape.{JobShape}
 use Rattle.flp_report.specs.Words.{words}
 use Rattle.flp_report.specs.Job.{job_part_of, job_words_of, job_bytes_of, free_words, job_bad_word}
-use Rattle.flp_report.specs.JobParts.{input_in, parts_in, seeds_word, seeds_start, seeds_in, job_own_word, job_own_start, job_joint_in, job_query_in}
+use Rattle.flp_report.specs.JobParts.{input_in, parts_in, seeds_word, seeds_start, seeds_in_job, job_own_word, job_own_start, job_joint_in, job_query_in}
 use Rattle.flp_report.proofs.WordPartsLemmas.{words-part, one_fits}
 use Rattle.flp_jobs.specs.Encoding.{job_input, given_words, job_seeds, job_joint}
 
--- where no number is found to be bad, each is a word
-words-from : (i : ℕ) (numbers : List ℕ) → position_from (λ n. nat_le modulus n) i numbers ≡ None → All IsWord numbers
-words-from i [] none = All-nil IsWord
-words-from i (n ∷ numbers) none =
-    ⊎_elim
-    (λ (bad : nat_le modulus n ≡ true). let found : Some i ≡ None = sym (rw bad refl) ∙ none in absurd cc)
-    (λ (good : nat_le modulus n ≡ false). All-cons IsWord n numbers (leb-false modulus n good) (words-from (i + 1) numbers (rw good at none)))
-    (cases_Bool (nat_le modulus n))
-
--- so is each of a part that begins behind those of any value
+-- each of a part that begins behind those of any value is a word
 pub part-good : (s : JobShape) (job : List ℕ) (n k place : ℕ) → job_bad_word s job ≡ None → free_words s ≤ k → k + n ≤ job_words_of s → place ≡ 16 + 8 * k
     → All IsWord (words n (take (8 * n) (drop place job)))
 part-good s job n k place good behind fits at =
@@ -34,12 +25,12 @@ part-good s job n k place good behind fits at =
     drop-drop (place - 8 * free) (8 * free) job ∙ ap (λ (m : ℕ). drop m job) (omega arith) in
     let own : words n (take (8 * n) (drop place job)) ≡ take n (drop (k - free) all) =
     ap (λ (b : List ℕ). words n (take (8 * n) b)) (sym here)
-    ∙ (words-part n (k - free) (job_words_of s - free) (place - 8 * free) (drop (8 * free) job) (omega arith) (omega arith)
+    ∙ (words-part n (k - free) (job_words_of s - free) 16 (place - 8 * free) (drop (8 * free) job) (omega arith) (omega arith)
     ∙ ap (λ (b : List ℕ). take n (drop (k - free) (words (job_words_of s - free) b))) turned) in
     subst (λ (l : List ℕ). All IsWord l) (sym own) (All-take IsWord n (drop (k - free) all) (All-drop IsWord (k - free) all (words-from free all good)))
 
--- no more of them than the input has are of any value
-free-few : (s : JobShape) → free_words s ≤ s.input
+-- no more words of a job have any value than its input has
+pub free-few : (s : JobShape) → free_words s ≤ s.input
 free-few s = few s.checked
   where
     few : (b : Bool) → (if b then 0 else s.input) ≤ s.input
@@ -80,7 +71,7 @@ length-input s job whole = length-words_at 16 (8 * s.input) job (omega (arith, w
 pub length-parts : (s : JobShape) (job : List ℕ) → length job ≡ job_bytes_of s → length (parts_in s job) ≡ 8 * ((s.shares - 1) * job_part_of s)
 length-parts s job whole = length-words_at (16 + 8 * s.input) (8 * ((s.shares - 1) * job_part_of s)) job (omega (arith, whole))
 
-pub length-seeds : (s : JobShape) (job : List ℕ) (proof : ℕ) → proof < s.proofs → length job ≡ job_bytes_of s → length (seeds_in s job proof) ≡ 8 * s.prove
+pub length-seeds : (s : JobShape) (job : List ℕ) (proof : ℕ) → proof < s.proofs → length job ≡ job_bytes_of s → length (seeds_in_job s job proof) ≡ 8 * s.prove
 length-seeds s job proof below whole =
     let fits = one_fits proof s.proofs s.prove (s.input + (s.shares - 1) * job_part_of s) below in
     length-words_at (seeds_start s proof) (8 * s.prove) job (omega (arith, whole, fits))

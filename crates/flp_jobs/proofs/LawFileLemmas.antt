@@ -1,61 +1,40 @@
 -- A job file without a bad place: what its head says, that each of its jobs is good, and that its batch is read again.
-use Rattle.std.proofs.Common.{ℕ, zero, suc, ◌≡◌, ◌+◌, ◌*◌, ◌^◌, ◌<◌, ◌≤◌, List, [], ◌∷◌, ◌++◌, length, map, drop, get_or, Bool, true, false, eqb, ltb, Option, Some, None, refl, sym, subst, ◌∙◌, arith, append-nil}
+use Rattle.std.proofs.Common.{ℕ, ◌≡◌, ◌+◌, ◌*◌, ◌^◌, ◌<◌, ◌≤◌, List, [], ◌∷◌, ◌++◌, length, map, drop, get_or, ltb, Option, Some, None, refl, sym, subst, ◌∙◌, arith, append-nil}
 use Rattle.std.specs.Prelude.{IfSome, if◌then◌else◌, not, nat_eq}
 use Rattle.std.specs.List.{All, concat, starts_with}
 use Rattle.std.proofs.Math.Nat.{mul-le-mul_left}
-use Rattle.std.proofs.lemmas.Bool.{ltb-false, le-ltb}
+use Rattle.std.proofs.lemmas.Bool.{le-ltb}
 use Rattle.std.proofs.lemmas.Option.{slice_get-get_or}
 use Rattle.std.proofs.lemmas.List.{length-map, length-take-le}
 use Rattle.std.proofs.lemmas.List.Elements.{All-map, All-weaker}
 use Rattle.flp_report.specs.declared.fault.BatchFault.{BatchFault}
-use Rattle.flp_report.specs.declared.fault.BatchFault.TheVariants.{Magic, Version, Shares, Proofs, TextLength, TooLarge, Truncated, Trailing}
+use Rattle.flp_report.specs.declared.fault.BatchFault.TheVariants.{Magic, Version, Shares, Proofs, TextLength, TooLarge, Trailing}
 use Rattle.flp_report.specs.declared.header.Header.{Header}
 use Rattle.flp_report.specs.declared.shape.Shape.{Shape}
 use Rattle.flp_report.specs.Fault.{met, first_of, ended}
 use Rattle.flp_report.specs.Head.{number_at, numbers_fault, text_end, head_fault}
-use Rattle.flp_report.specs.Shape.{bytes_of}
+use Rattle.flp_report.specs.Shape.{bytes_of, width_of}
+use Rattle.flp_report.specs.Buckets.{HasBucket}
 use Rattle.flp_report.specs.Pieces.{IsCut}
-use Rattle.flp_report.specs.Batch.{batch_letters, large_fault, claims_fault, records_fault, header_of, claims_of, claims_end, size_of, front_fault, fault_of, whole_records}
+use Rattle.flp_report.specs.Batch.{batch_head_fault, batch_text_end, large_fault, claims_fault, records_fault, header_of, claims_of, claims_end, front_fault, fault_of, whole_records}
 use Rattle.flp_report.specs.Layout.{head_bytes, IsWritable}
-use Rattle.flp_report.specs.Job.{job_letters, job_header_of, job_bytes_of, made_bytes_of, job_large_fault, word_fault, jobs_fault, jobs_of}
+use Rattle.flp_report.specs.Job.{job_letters, job_header_of, made_bytes_of, made_header, job_bytes_of, job_large_fault, word_fault, jobs_fault, jobs_of}
+use Rattle.flp_report.proofs.FaultLemmas.{none-at, none-above, none-short}
+use Rattle.flp_report.proofs.BucketLemmas.{placed-one}
 use Rattle.flp_report.proofs.PiecesLemmas.{IsCut-pieces}
 use Rattle.flp_report.proofs.BackLemmas.{reads_back}
 use Rattle.flp_load.specs.Loaded.{IsLoaded}
-use Rattle.flp_batch.specs.Setting.{IsShapeOf}
-use Rattle.flp_jobs.specs.Setting.{JobSetting}
-use Rattle.flp_jobs.specs.File.{HasSetting}
-use Rattle.flp_jobs.specs.Record.{record_shape, made_header, record_made, batch_made}
+use Rattle.flp_load.specs.Laws.{LoadedIsBounded}
+use Rattle.flp_batch.specs.Setting.{IsShapeBehind}
+use Rattle.flp_batch.specs.Format.{newest_read, job_files}
+use Rattle.flp_batch.specs.JobSetting.{JobSetting, made_shape}
+use Rattle.flp_batch.specs.File.{HasSetting}
+use Rattle.flp_jobs.specs.Record.{record_made, batch_made}
 use Rattle.flp_jobs.specs.Reply.{IsProvable}
 use Rattle.flp_jobs.specs.Laws.{ReadsBack, BatchesReadBack, IsHonestlyMade, RecordsAreHonest}
-use Rattle.flp_jobs.proofs.SettingLemmas.{circuit-of, IsSetting-from}
+use Rattle.flp_jobs.proofs.SettingLemmas.{circuit-of, outs-few, IsSetting-from}
 use Rattle.flp_jobs.proofs.PlaceLemmas.{place-good, words-good}
-use Rattle.flp_jobs.proofs.LawLoadedLemmas.{bounded-loaded}
 use Rattle.flp_jobs.proofs.LawRecordLemmas.{IsSound, IsGood, length-record, honestly_made}
-
--- ---- where no fault is met
-
-no-first : (fault : Option BatchFault) (rest : List (Option BatchFault)) → first_of (fault ∷ rest) ≡ None → (fault ≡ None) × (first_of rest ≡ None)
-no-first None rest none = (refl, none)
-no-first (Some fault) rest none = let no : ⊥ = cc in absurd no
-
--- none of these
-none-at : (faults : List (Option BatchFault)) (k : ℕ) → first_of faults ≡ None → get_or faults k None ≡ None
-none-at [] k none = refl
-none-at (fault ∷ rest) zero none = (no-first fault rest none).0
-none-at (fault ∷ rest) (suc k) none = none-at rest k (no-first fault rest none).1
-
-none-met : (test : Bool) (fault : BatchFault) → met test fault ≡ None → test ≡ false
-none-met true fault none = let no : ⊥ = cc in absurd no
-none-met false fault none = refl
-
--- so a number is not above its limit
-none-above : (limit n : ℕ) (fault : BatchFault) → met (ltb limit n) fault ≡ None → n ≤ limit
-none-above limit n fault none = ltb-false limit n (none-met (ltb limit n) fault none)
-
--- and the input does not end early
-none-short : (before need : ℕ) (rest : List ℕ) → ended before need rest ≡ None → need ≤ before + length rest
-none-short before need rest none =
-    ltb-false (before + length rest) need (none-met (ltb (before + length rest) need) (Truncated (before + length rest) need) none)
 
 -- ---- the head
 
@@ -63,7 +42,8 @@ none-short before need rest none =
 abbrev numbers_tried : List ℕ → List (Option BatchFault)
 numbers_tried bytes =
     met (not (starts_with nat_eq bytes job_letters)) Magic
-    ∷ met (not (eqb (number_at 8 bytes) 1)) (Version (number_at 8 bytes))
+    ∷ met (ltb (number_at 8 bytes) 1) (Version (number_at 8 bytes))
+    ∷ met (ltb 1 (number_at 8 bytes)) (Version (number_at 8 bytes))
     ∷ met (ltb (number_at 12 bytes) 2) (Shares (number_at 12 bytes))
     ∷ met (ltb 16 (number_at 12 bytes)) (Shares (number_at 12 bytes))
     ∷ met (ltb (number_at 16 bytes) 1) (Proofs (number_at 16 bytes))
@@ -83,40 +63,35 @@ record IsRight (bytes : List ℕ) : Type 0 where
 
 right-head : (bytes : List ℕ) → head_fault job_letters 28 None bytes ≡ None → IsRight bytes
 right-head bytes none =
-    let tried : List (Option BatchFault) = ended 0 28 bytes ∷ numbers_fault job_letters None bytes ∷ ended 28 (text_end 28 bytes) (drop 28 bytes) ∷ [] in
+    let tried : List (Option BatchFault) = ended 0 28 bytes ∷ numbers_fault job_letters 1 None bytes ∷ ended 28 (text_end 28 bytes) (drop 28 bytes) ∷ [] in
     let numbers : first_of (numbers_tried bytes) ≡ None = none-at tried 1 none in
     let reaches : text_end 28 bytes ≤ 28 + length (drop 28 bytes) = none-short 28 (text_end 28 bytes) (drop 28 bytes) (none-at tried 2 none) in
     record {
-      least_shares = none-above (number_at 12 bytes) 2 (Shares (number_at 12 bytes)) (none-at (numbers_tried bytes) 2 numbers);
-      most_shares = none-above 16 (number_at 12 bytes) (Shares (number_at 12 bytes)) (none-at (numbers_tried bytes) 3 numbers);
-      least_proofs = none-above (number_at 16 bytes) 1 (Proofs (number_at 16 bytes)) (none-at (numbers_tried bytes) 4 numbers);
-      most_proofs = none-above 16 (number_at 16 bytes) (Proofs (number_at 16 bytes)) (none-at (numbers_tried bytes) 5 numbers);
-      text = none-above 65536 (number_at 20 bytes) (TextLength (number_at 20 bytes)) (none-at (numbers_tried bytes) 7 numbers);
+      least_shares = none-above (number_at 12 bytes) 2 (Shares (number_at 12 bytes)) (none-at (numbers_tried bytes) 3 numbers);
+      most_shares = none-above 16 (number_at 12 bytes) (Shares (number_at 12 bytes)) (none-at (numbers_tried bytes) 4 numbers);
+      least_proofs = none-above (number_at 16 bytes) 1 (Proofs (number_at 16 bytes)) (none-at (numbers_tried bytes) 5 numbers);
+      most_proofs = none-above 16 (number_at 16 bytes) (Proofs (number_at 16 bytes)) (none-at (numbers_tried bytes) 6 numbers);
+      text = none-above 65536 (number_at 20 bytes) (TextLength (number_at 20 bytes)) (none-at (numbers_tried bytes) 8 numbers);
       whole = omega (arith, reaches);
     }
 
 -- ---- the file
 
 -- a batch without a fault has none in its head
-none-head : (party : Option ℕ) (shape : Shape) (batch : List ℕ) → fault_of party shape batch ≡ None → head_fault batch_letters 32 party batch ≡ None
+none-head : (party : Option ℕ) (shape : Shape) (batch : List ℕ) → fault_of newest_read party shape batch ≡ None → batch_head_fault newest_read party batch ≡ None
 none-head party shape batch none =
-    let front : front_fault party shape batch ≡ None =
-    none-at (front_fault party shape batch ∷ records_fault (claims_end batch) (size_of shape batch) (drop (claims_end batch) batch) ∷ []) 0 none in
+    let front : front_fault newest_read party shape batch ≡ None =
+    none-at (front_fault newest_read party shape batch ∷ records_fault shape (claims_end batch) (number_at 28 batch) (drop (claims_end batch) batch) ∷ []) 0 none in
     none-at
     (
-    head_fault batch_letters 32 party batch
-    ∷ large_fault shape (text_end 32 batch) (number_at 24 batch) (number_at 28 batch)
-    ∷ claims_fault (text_end 32 batch) (number_at 24 batch) (drop (text_end 32 batch) batch)
+    batch_head_fault newest_read party batch
+    ∷ large_fault shape (number_at 24 batch)
+    ∷ claims_fault (batch_text_end batch) (number_at 24 batch) (drop (batch_text_end batch) batch)
     ∷ []
     ) 0 front
 
--- where the batch is to be written, its size is not above the limit
-when_written : (size : ℕ) (written : Bool) (fault : BatchFault) → written ≡ true → (if written then met (ltb 1073741824 size) fault else None) ≡ None → size ≤ 1073741824
-when_written size true fault is none = none-above 1073741824 size fault none
-when_written size false fault is none = let no : ⊥ = cc in absurd no
-
-module _ (bytes : List ℕ) (by : JobSetting) (provable : IsProvable bytes by) where
-  has : HasSetting bytes by
+module _ (bounded : LoadedIsBounded) (bytes : List ℕ) (by : JobSetting) (provable : IsProvable bytes by) where
+  has : HasSetting job_files bytes by.params by
   has = provable.is_file.has
 
   right : IsRight bytes
@@ -124,8 +99,8 @@ module _ (bytes : List ℕ) (by : JobSetting) (provable : IsProvable bytes by) w
 
   pub is_sound : IsSound by
   is_sound = record {
-    setting = IsSetting-from (job_header_of bytes) by (circuit-of (job_header_of bytes).text by.params by.circuit has.text) has.shape right.least_shares;
-    bounded = bounded-loaded (job_header_of bytes).text by.params by.circuit has.text;
+    setting = IsSetting-from (job_header_of bytes) by (circuit-of (job_header_of bytes).text by.params by.circuit has.text) has.fits.shape right.least_shares;
+    bounded = bounded (job_header_of bytes).text by.params by.circuit has.text;
   }
 
   abbrev before : ℕ
@@ -205,15 +180,10 @@ module _ (bytes : List ℕ) (by : JobSetting) (provable : IsProvable bytes by) w
   file-small =
       none-above 1073741824 (before + count * job_bytes_of by.shape) (TooLarge (before + count * job_bytes_of by.shape)) (none-at sizes_tried 2 sizes-none)
 
-  batch-small : before + 4 + count * made_bytes_of by.shape ≤ 1073741824
-  batch-small =
-      when_written (before + 4 + count * made_bytes_of by.shape) by.shape.written (TooLarge (before + 4 + count * made_bytes_of by.shape)) has.shape.written
-      (none-at sizes_tried 3 sizes-none)
-
-  fits : large_fault (record_shape by.shape) (32 + length header.text) header.claims header.reports ≡ None
+  fits : large_fault (made_shape by) header.claims ≡ None
   fits =
-      let size : 32 + length header.text + 16 * 0 + count * made_bytes_of by.shape ≤ 1073741824 = omega (arith, batch-small, length-text) in
-      rw (le-ltb 16777216 (made_bytes_of by.shape) made-small, le-ltb 1073741824 (32 + length header.text + 16 * 0 + count * made_bytes_of by.shape) size) refl
+      let outs : width_of (made_shape by) ≤ 65536 = omega (arith, outs-few (job_header_of bytes).text by.params by.circuit has.text) in
+      rw (le-ltb 16777216 (made_bytes_of by.shape) made-small, le-ltb 65536 (width_of (made_shape by)) outs) refl
 
   -- few jobs are within the limit, since each has 16 bytes or more
   few : count < 2 ^ 32
@@ -221,17 +191,23 @@ module _ (bytes : List ℕ) (by : JobSetting) (provable : IsProvable bytes by) w
       let least : count * 16 ≤ count * job_bytes_of by.shape = mul-le-mul_left count (omega arith) in
       omega (arith, least, file-small)
 
-  writable : (party : Option ℕ) → IfSome party (λ p. p < by.shape.shares) → IsWritable party header
+  writable : (party : Option ℕ) → IfSome party (λ p. p < by.shape.shares) → IsWritable newest_read party header
   writable party own =
       let P : ℕ → Type 0 = λ n. IfSome party (λ p. p < n) in
       record {
+        newest_is = omega arith;
         limits = record {
+          least_version = omega arith;
+          most_version = omega arith;
           least_shares = right.least_shares;
           most_shares = right.most_shares;
           least_proofs = right.least_proofs;
           most_proofs = right.most_proofs;
-          own_share = subst P has.shape.shares own;
+          own_share = subst P has.fits.shape.of_record.shares own;
           text = omega (arith, length-text, right.text);
+          least_buckets = omega arith;
+          most_buckets = omega arith;
+          one_bucket = λ _. refl;
         };
         claims = omega arith;
         reports = few;
@@ -240,48 +216,39 @@ module _ (bytes : List ℕ) (by : JobSetting) (provable : IsProvable bytes by) w
   abbrev records : List (List ℕ)
   records = map (record_made by) (jobs_of by.shape bytes)
 
-  records-long : All (λ r. length r ≡ bytes_of (record_shape by.shape)) records
+  records-long : All (λ r. length r ≡ made_bytes_of by.shape) records
   records-long =
-      All-map (λ r. length r ≡ bytes_of (record_shape by.shape)) (record_made by) (jobs_of by.shape bytes)
-      (All-weaker (IsGood by) (λ job. length (record_made by job) ≡ bytes_of (record_shape by.shape)) (λ job good. length-record by job is_sound good) (jobs_of by.shape bytes) jobs-good)
+      All-map (λ r. length r ≡ made_bytes_of by.shape) (record_made by) (jobs_of by.shape bytes)
+      (All-weaker (IsGood by) (λ job. length (record_made by job) ≡ made_bytes_of by.shape) (λ job good. length-record by job is_sound good) (jobs_of by.shape bytes) jobs-good)
+
+  records-placed : All (HasBucket (made_shape by)) records
+  records-placed = placed-one (made_shape by) records (λ two. let no : ⊥ = omega (arith, two) in no) (omega arith)
 
   records-many : length records ≡ count
   records-many = length-map (jobs_of by.shape bytes) (record_made by) ∙ cut.number
 
-  -- with this shape, behind the same text
-  shaped : IsShapeOf header by.circuit (record_shape by.shape)
-  shaped = record {
-    shares = has.shape.shares;
-    proofs = has.shape.proofs;
-    meas = has.shape.meas;
-    joint = has.shape.joint;
-    query = has.shape.query;
-    proof = has.shape.proof;
-  }
-
   -- what is read of it
   abbrev IsRead : Option ℕ → List ℕ → Type 0
   IsRead party batch =
-      (fault_of party (record_shape by.shape) batch ≡ None) × (header_of batch ≡ header) × (claims_of batch ≡ []) × (whole_records party (record_shape by.shape) batch ≡ records)
+      (fault_of newest_read party (made_shape by) batch ≡ None) × (header_of batch ≡ header) × (claims_of batch ≡ []) × (whole_records newest_read party (made_shape by) batch ≡ records)
 
   is_read : (party : Option ℕ) → IfSome party (λ p. p < by.shape.shares) → IsRead party (batch_made by bytes)
   is_read party own =
       subst (λ (front : List ℕ). IsRead party (front ++ concat records)) (append-nil (head_bytes header))
-      (reads_back party (record_shape by.shape) header [] records (writable party own) fits refl refl records-long records-many)
+      (reads_back newest_read party (made_shape by) header [] records (writable party own) fits refl refl records-long records-placed records-many)
 
   pub reads-back : (party : Option ℕ) → IfSome party (λ p. p < by.shape.shares) → ReadsBack party by bytes
   reads-back party own =
       let batch = batch_made by bytes in
       let read = is_read party own in
       let P : Header → Type 0 = λ h. IsLoaded h.text by.params by.circuit in
-      let Q : Header → Type 0 = λ h. IsShapeOf h by.circuit (record_shape by.shape) in
+      let Q : Header → Type 0 = λ h. IsShapeBehind h by.circuit (made_shape by) in
       record {
         is_batch = record {
           has = record {
-            head = none-head party (record_shape by.shape) batch read.0;
+            head = none-head party (made_shape by) batch read.0;
             text = subst P (sym read.1) has.text;
-            shape = subst Q (sym read.1) shaped;
-            claims = read.2;
+            fits = record { shape = subst Q (sym read.1) has.fits.shape.of_record; claims = read.2 };
           };
           no_fault = read.0;
         };
@@ -290,9 +257,9 @@ module _ (bytes : List ℕ) (by : JobSetting) (provable : IsProvable bytes by) w
 
 -- ---- the laws
 
-pub records_are_honest : RecordsAreHonest
-records_are_honest bytes by provable =
-    All-weaker (IsGood by) (IsHonestlyMade by) (λ job good. honestly_made by job (is_sound bytes by provable) good) (jobs_of by.shape bytes) (jobs-good bytes by provable)
+pub records_are_honest : LoadedIsBounded → RecordsAreHonest
+records_are_honest bounded bytes by provable =
+    All-weaker (IsGood by) (IsHonestlyMade by) (λ job good. honestly_made by job (is_sound bounded bytes by provable) good) (jobs_of by.shape bytes) (jobs-good bounded bytes by provable)
 
-pub batches_read_back : BatchesReadBack
-batches_read_back party bytes by provable own = reads-back bytes by provable party own
+pub batches_read_back : LoadedIsBounded → BatchesReadBack
+batches_read_back bounded party bytes by provable own = reads-back bounded bytes by provable party own

@@ -1,22 +1,23 @@
 -- What holds of a job whose place is not bad.
-use Rattle.std.proofs.Common.{ℕ, zero, suc, ◌≡◌, ◌+◌, ◌<◌, ◌≤◌, Bool, true, false, cond, eqb, leb, ltb, List, [], ◌∷◌, length, Option, Some, None, refl, sym, subst, ◌∙◌, ⊎_elim, inl, inr, arith}
-use Rattle.std.specs.Prelude.{⊤, not, ◌⊎◌}
-use Rattle.std.specs.List.{All, position_from, range_with_len}
+use Rattle.std.proofs.Common.{ℕ, zero, suc, ◌≡◌, ◌+◌, ◌<◌, ◌≤◌, Bool, true, false, cond, leb, ltb, List, [], ◌∷◌, length, Option, Some, None, refl, sym, subst, ⊎_elim, inl, inr, arith}
+use Rattle.std.specs.Prelude.{⊤, ◌⊎◌}
+use Rattle.std.specs.List.{range_with_len}
 use Rattle.std.specs.Option.{option_map, option_or}
-use Rattle.std.proofs.lemmas.Bool.{cases_Bool, eq-eqb, eqb-true}
-use Rattle.std.proofs.lemmas.List.Elements.{All-nil, All-cons}
+use Rattle.std.proofs.lemmas.Bool.{eq-eqb}
 use Rattle.flp_syntax.specs.declared.syntax.Params.{Params}
 use Rattle.flp_syntax.specs.declared.syntax.Params.TheVariants.{Count, Sum, SumVec, Histogram, Multihot}
 use Rattle.flp_syntax.specs.Tree.{Program}
-use Rattle.flp_meaning.specs.Circuit.{checks_of, direct, IsValid}
+use Rattle.flp_meaning.specs.Circuit.{IsValid}
+use Rattle.flp_meaning.proofs.FailingLemmas.{none_fails-valid}
 use Rattle.flp_circuits.specs.declared.fault.MeasFault.{MeasFault}
 use Rattle.flp_circuits.specs.declared.fault.MeasFault.TheVariants as meas
 use Rattle.flp_circuits.specs.Sizes.{input_len_of}
 use Rattle.flp_circuits.specs.Encoding.{range_of, range_fault, weight_of, weight_fault}
 use Rattle.flp_circuits.proofs.EncodingLemmas.{option_or_none}
-use Rattle.flp_jobs.specs.Setting.{JobSetting, input_count}
-use Rattle.flp_jobs.specs.Encoding.{job_input, job_joint, job_encoding, proof_numbers}
-use Rattle.flp_jobs.specs.Place.{failing_check, check_fault, first_check, input_fault, place_fault}
+use Rattle.flp_batch.specs.JobSetting.{JobSetting, input_count}
+use Rattle.flp_jobs.specs.Encoding.{job_input, job_joint, job_encoding, job_proofs}
+use Rattle.flp_meaning.specs.Circuit.{failing_check}
+use Rattle.flp_jobs.specs.Place.{check_fault, first_check, input_fault, place_fault}
 use Rattle.flp_jobs.proofs.PlaceLemmas.{refused_or-none}
 
 -- ---- no measurement has another count of numbers
@@ -59,9 +60,9 @@ no_count None circuit input size = tt
 
 -- neither the measurement nor, under the joint words of any proof, a check
 pub place-none : (by : JobSetting) (job : List ℕ) → length (job_input by.shape job) ≡ input_count by.params by.circuit → place_fault by job ≡ None
-    → (input_fault by.params (job_input by.shape job) ≡ None) × (first_check by job (proof_numbers by.shape) ≡ None)
+    → (input_fault by.params (job_input by.shape job) ≡ None) × (first_check by job (job_proofs by.shape) ≡ None)
 place-none by job size none =
-    refused_or-none (input_fault by.params (job_input by.shape job)) (first_check by job (proof_numbers by.shape))
+    refused_or-none (input_fault by.params (job_input by.shape job)) (first_check by job (job_proofs by.shape))
     (λ count is. subst IsNoCount is (no_count by.params by.circuit (job_input by.shape job) size)) none
 
 -- ---- the checks are 0
@@ -92,20 +93,11 @@ map-none : {A B : Type 0} → (f : A → B) (o : Option A) → option_map f o �
 map-none f None none = refl
 map-none f (Some a) none = let no : ⊥ = cc in absurd no
 
--- where no value is found that is not 0, each is
-all-zero : (i : ℕ) (values : List ℕ) → position_from (λ value. not (eqb value 0)) i values ≡ None → All (λ value. value ≡ 0) values
-all-zero i [] none = All-nil (λ value. value ≡ 0)
-all-zero i (value ∷ values) none =
-    ⊎_elim
-    (λ (zero : eqb value 0 ≡ true). All-cons (λ v. v ≡ 0) value values (eqb-true value 0 zero) (all-zero (i + 1) values (rw zero at none)))
-    (λ (other : eqb value 0 ≡ false). let found : Some i ≡ None = sym (rw other refl) ∙ none in absurd cc)
-    (cases_Bool (eqb value 0))
-
 -- so the encoding is valid under the joint words of each proof
-pub valid-none : (by : JobSetting) (job : List ℕ) (proof : ℕ) → first_check by job (proof_numbers by.shape) ≡ None → proof < by.shape.proofs
+pub valid-none : (by : JobSetting) (job : List ℕ) (proof : ℕ) → first_check by job (job_proofs by.shape) ≡ None → proof < by.shape.proofs
     → IsValid by.circuit (job_encoding by job) (job_joint by.shape job proof)
 valid-none by job proof none below =
     let x = job_encoding by job in
     let joint = job_joint by.shape job proof in
     let own = check-none by job 0 by.shape.proofs proof none (omega arith) (omega arith) in
-    all-zero 0 (checks_of by.circuit (direct by.circuit x joint)) (map-none _ (failing_check by.circuit x joint) own)
+    none_fails-valid by.circuit x joint (map-none _ (failing_check by.circuit x joint) own)

@@ -1,15 +1,13 @@
 -- The record that is made of a job keeps the job, and is honest.
-use Rattle.std.proofs.Common.{ℕ, ◌≡◌, ◌+◌, ◌-◌, ◌*◌, ◌^◌, ◌<◌, ◌≤◌, List, [], ◌∷◌, ◌++◌, length, take, drop, Bool, true, false, nat_le, None, refl, ap, ap₂, sym, subst, ◌∙◌, arith, length-append}
-use Rattle.std.specs.Prelude.{if◌then◌else◌, is_none}
-use Rattle.std.specs.List.{position_from, flat_map}
+use Rattle.std.proofs.Common.{ℕ, ◌≡◌, ◌+◌, ◌-◌, ◌*◌, ◌^◌, ◌<◌, ◌≤◌, List, length, take, true, None, refl, ap, ap₂, sym, subst, ◌∙◌, arith, length-append}
+use Rattle.std.specs.Prelude.{is_none}
+use Rattle.std.specs.List.{All, flat_map}
 use Rattle.std.proofs.Math.Seq.{drop-append-add}
-use Rattle.std.proofs.lemmas.Bool.{lt-leb}
 use Rattle.std.proofs.lemmas.List.{take_at, drop_at, take_all, length-take-le}
-use Rattle.std.proofs.lemmas.List.Elements.{All-head, All-tail, All-append}
-use Rattle.byteorder.specs.Endian.{little_bytes, little_number}
-use Rattle.byteorder.specs.Numbers.{little_number-reads_back}
+use Rattle.std.proofs.lemmas.List.Elements.{All-append, All-weaker}
 use Rattle.flp_field.specs.Word.{modulus, IsWord, AreWords}
 use Rattle.flp_field.specs.Sums.{sum_of_parts}
+use Rattle.flp_field.proofs.WordLists.{none-from_words, length-flat_below}
 use Rattle.flp_meaning.specs.Circuit.{IsValid}
 use Rattle.flp_meaning.specs.Proof.{words_at, honest_proof}
 use Rattle.flp_meaning.specs.ProofLaws.{IsBounded, AreSeeds}
@@ -21,61 +19,31 @@ use Rattle.flp_report.specs.Shape.{words_of, bytes_of}
 use Rattle.flp_report.specs.Record.{words_in}
 use Rattle.flp_report.specs.Words.{words}
 use Rattle.flp_report.specs.Layout.{word_bytes}
-use Rattle.flp_report.specs.Job.{job_part_of, job_bytes_of, free_words, job_bad_word}
-use Rattle.flp_report.specs.JobParts.{input_in, parts_in, seeds_in, job_own_word, job_own_start, job_joint_in, job_query_in}
+use Rattle.flp_report.specs.Job.{job_part_of, job_bytes_of, job_bad_word}
+use Rattle.flp_report.specs.JobParts.{input_in, parts_in, seeds_in_job, job_own_word, job_own_start, job_joint_in, job_query_in}
 use Rattle.flp_report.proofs.WordsLemmas.{length-words}
 use Rattle.flp_report.proofs.WordPartsLemmas.{one_fits}
+use Rattle.flp_report.proofs.ReportLemmas.{words-word_bytes, length-word_bytes}
 use Rattle.flp_worker.specs.Parts.{joint_words, query_words, unshared_encoding, unshared_proof}
 use Rattle.flp_worker.proofs.PrefixLemmas.{part-fits}
 use Rattle.flp_worker.proofs.PlaceLemmas.{length-flat, words-flat}
 use Rattle.flp_verdict.specs.Laws.{IsHonest}
-use Rattle.flp_jobs.specs.Setting.{JobSetting, input_count, IsSetting}
-use Rattle.flp_jobs.specs.Encoding.{job_input, given_words, job_seeds, job_joint, job_query, job_encoding, proof_numbers}
+use Rattle.flp_batch.specs.JobSetting.{JobSetting, made_shape, input_count}
+use Rattle.flp_jobs.specs.Setting.{IsSetting}
+use Rattle.flp_jobs.specs.Encoding.{job_input, given_words, job_seeds, job_joint, job_query, job_encoding, job_proofs}
 use Rattle.flp_jobs.specs.Place.{input_fault, place_fault}
-use Rattle.flp_jobs.specs.Record.{record_shape, job_proof, unshared_words, own_words, made_words, record_made}
+use Rattle.flp_jobs.specs.Record.{job_proof, unshared_words, own_words, made_words, record_made}
 use Rattle.flp_jobs.specs.Laws.{KeepsProof, KeepsJob, IsHonestlyMade}
-use Rattle.flp_jobs.proofs.JobLemmas.{part-good, input-good, given-good, seeds-good, joint-good}
-use Rattle.flp_jobs.proofs.LawPartLemmas.{sum-cut, sum_of_parts-front, length-flat_below, flat-one, All-flat}
+use Rattle.flp_jobs.proofs.JobLemmas.{part-good, free-few, input-good, given-good, seeds-good, joint-good}
+use Rattle.flp_jobs.proofs.LawPartLemmas.{sum-cut, sum_of_parts-front, flat-one, All-flat}
 use Rattle.flp_jobs.proofs.LawWordLemmas.{length-encoding, words-encoding, words-honest}
 use Rattle.flp_jobs.proofs.LawPlaceLemmas.{place-none, valid-none}
 
--- ---- words that are written
-
--- words of the field have no bad one among them
-good-from : (i : ℕ) (numbers : List ℕ) → AreWords numbers → position_from (λ n. nat_le modulus n) i numbers ≡ None
-good-from i [] are = refl
-good-from i (n ∷ numbers) are =
-    let test : nat_le modulus n ≡ false = lt-leb modulus n (All-head IsWord n numbers are) in
-    rw test (good-from (i + 1) numbers (All-tail IsWord n numbers are))
-
--- words that are written are read again
-words-written : (ws : List ℕ) → AreWords ws → words (length ws) (word_bytes ws) ≡ ws
-words-written [] are = refl
-words-written (w ∷ ws) are =
-    let word : w < modulus = All-head IsWord w ws are in
-    let below : w < 256 ^ 8 = omega arith in
-    let number : little_number 8 (little_bytes 8 w ++ word_bytes ws) ≡ w = little_number-reads_back 8 w (word_bytes ws) below in
-    let behind : drop 8 (little_bytes 8 w ++ word_bytes ws) ≡ word_bytes ws = drop_at (little_bytes 8 w) (word_bytes ws) 8 refl in
-    ap (λ (n : ℕ). n ∷ words (length ws) (drop 8 (little_bytes 8 w ++ word_bytes ws))) number
-    ∙ (ap (λ (b : List ℕ). w ∷ words (length ws) b) behind
-    ∙ ap (λ (l : List ℕ). w ∷ l) (words-written ws (All-tail IsWord w ws are)))
-
--- each of them takes 8 bytes
-length-written : (ws : List ℕ) → length (word_bytes ws) ≡ 8 * length ws
-length-written [] = refl
-length-written (w ∷ ws) =
-    let first : length (little_bytes 8 w) ≡ 8 = refl in
-    omega (arith, length-append (little_bytes 8 w) (word_bytes ws), first, length-written ws)
+-- words of the field fit 8 bytes
+below-words : (ws : List ℕ) → AreWords ws → All (λ w. w < 2 ^ 64) ws
+below-words ws are = All-weaker IsWord (λ w. w < 2 ^ 64) (λ (w : ℕ) (word : w < modulus). omega arith) ws are
 
 -- ---- query words
-
--- no more words of a job have any value than its input has
-free-few : (s : JobShape) → free_words s ≤ s.input
-free-few s = few s.checked
-  where
-    few : (b : Bool) → (if b then 0 else s.input) ≤ s.input
-    few true = omega arith
-    few false = omega arith
 
 query-good : (s : JobShape) (job : List ℕ) (proof : ℕ) → proof < s.proofs → job_bad_word s job ≡ None → AreWords (job_query s job proof)
 query-good s job proof below good =
@@ -105,18 +73,18 @@ module _ (by : JobSetting) (job : List ℕ) (sound : IsSound by) (good : IsGood 
   x = job_encoding by job
 
   length-input : length (job_input shape job) ≡ input_count by.params by.circuit
-  length-input = length-words shape.input (input_in shape job) ∙ sound.setting.input
+  length-input = length-words shape.input (input_in shape job) ∙ sound.setting.shape.input
 
   not_refused : input_fault by.params (job_input shape job) ≡ None
   not_refused = (place-none by job length-input good.place).0
 
   length-x : length x ≡ shape.meas
-  length-x = length-encoding by.params by.circuit (job_input shape job) sound.setting.circuit length-input not_refused ∙ sym sound.setting.meas
+  length-x = length-encoding by.params by.circuit (job_input shape job) sound.setting.circuit length-input not_refused ∙ sym sound.setting.shape.of_record.meas
 
   words-x : AreWords x
   words-x =
       words-encoding by.params (job_input shape job) not_refused
-      (λ (own : is_none by.params ≡ true). input-good shape job (sound.setting.checked ∙ own) good.words)
+      (λ (own : is_none by.params ≡ true). input-good shape job (sound.setting.shape.checked ∙ own) good.words)
 
   valid : (proof : ℕ) → proof < shape.proofs → IsValid by.circuit x (job_joint shape job proof)
   valid proof below = valid-none by job proof (place-none by job length-input good.place).1 below
@@ -126,19 +94,19 @@ module _ (by : JobSetting) (job : List ℕ) (sound : IsSound by) (good : IsGood 
   are_seeds : (proof : ℕ) → proof < shape.proofs → AreSeeds by.circuit (job_seeds shape job proof)
   are_seeds proof below = record {
     words = seeds-good shape job proof below good.words;
-    size = length-words shape.prove (seeds_in shape job proof) ∙ sound.setting.prove;
+    size = length-words shape.prove (seeds_in_job shape job proof) ∙ sound.setting.shape.prove;
   }
 
   length-proof : (proof : ℕ) → proof < shape.proofs → length (job_proof by job proof) ≡ shape.proof
   length-proof proof below =
       honest_proof_has_length by.circuit x (job_joint shape job proof) (job_seeds shape job proof) sound.bounded (are_seeds proof below)
-      ∙ sym sound.setting.proof
+      ∙ sym sound.setting.shape.of_record.proof
 
   abbrev proofs : List ℕ
-  proofs = flat_map (job_proof by job) (proof_numbers shape)
+  proofs = flat_map (job_proof by job) (job_proofs shape)
 
   length-proofs : length proofs ≡ shape.proofs * shape.proof
-  length-proofs = length-flat_below (job_proof by job) shape.proof shape.proofs length-proof
+  length-proofs = length-flat_below (job_proof by job) shape.proof 0 shape.proofs (λ (proof : ℕ) (first : 0 ≤ proof) (low : proof < 0 + shape.proofs). length-proof proof (omega arith))
 
   words-proofs : AreWords proofs
   words-proofs =
@@ -192,7 +160,7 @@ module _ (by : JobSetting) (job : List ℕ) (sound : IsSound by) (good : IsGood 
       ∙ ap₂ (λ (a b : ℕ). a + b) (length-words shape.joint (job_joint_in shape job proof)) (length-words shape.query (job_query_in shape job proof))
 
   abbrev owns : List ℕ
-  owns = flat_map (own_words shape job) (proof_numbers shape)
+  owns = flat_map (own_words shape job) (job_proofs shape)
 
   words-owns : AreWords owns
   words-owns =
@@ -204,7 +172,7 @@ module _ (by : JobSetting) (job : List ℕ) (sound : IsSound by) (good : IsGood 
   abbrev made : List ℕ
   made = made_words by job
 
-  length-made : length made ≡ words_of (record_shape shape)
+  length-made : length made ≡ words_of (made_shape by)
   length-made =
       length-append shares owns
       ∙ ap₂ (λ (a b : ℕ). a + b) length-shares (length-flat (own_words shape job) (shape.joint + shape.query) shape.proofs length-own)
@@ -216,14 +184,14 @@ module _ (by : JobSetting) (job : List ℕ) (sound : IsSound by) (good : IsGood 
   length-nonce = length-take-le 16 job (omega (arith, good.size))
 
   -- the record has as many bytes as its shape says, and is read again
-  pub length-record : length (record_made by job) ≡ bytes_of (record_shape shape)
-  length-record = length-append (take 16 job) (word_bytes made) ∙ omega (arith, length-nonce, length-made, length-written made)
+  pub length-record : length (record_made by job) ≡ bytes_of (made_shape by)
+  length-record = length-append (take 16 job) (word_bytes made) ∙ omega (arith, length-nonce, length-made, length-word_bytes made)
 
-  read : words_in (record_shape shape) (record_made by job) ≡ made
+  read : words_in (made_shape by) (record_made by job) ≡ made
   read =
-      ap (λ (b : List ℕ). words (words_of (record_shape shape)) b) (drop_at (take 16 job) (word_bytes made) 16 length-nonce)
+      ap (λ (b : List ℕ). words (words_of (made_shape by)) b) (drop_at (take 16 job) (word_bytes made) 16 length-nonce)
       ∙ ap (λ (n : ℕ). words n (word_bytes made)) (sym length-made)
-      ∙ words-written made words-made
+      ∙ words-word_bytes made (below-words made words-made)
 
   -- ---- what it keeps
 
@@ -233,13 +201,13 @@ module _ (by : JobSetting) (job : List ℕ) (sound : IsSound by) (good : IsGood 
       ∙ ap (λ (n : ℕ). sum_of_parts shape.shares n shares) (sym length-unshared)
       ∙ shares_sum_up shape.shares unshared (given_words shape job) some words-unshared
 
-  kept-encoding : unshared_encoding (record_shape shape) made ≡ x
+  kept-encoding : unshared_encoding (made_shape by) made ≡ x
   kept-encoding =
       sum-cut made (λ (share : ℕ). share * job_part_of shape) shape.shares (job_part_of shape) 0 shape.meas (λ (share : ℕ). omega arith) (omega arith)
       ∙ ap (λ (l : List ℕ). words_at 0 shape.meas l) summed
       ∙ own-encoding
 
-  kept-proof : (proof : ℕ) → proof < shape.proofs → unshared_proof (record_shape shape) made proof ≡ job_proof by job proof
+  kept-proof : (proof : ℕ) → proof < shape.proofs → unshared_proof (made_shape by) made proof ≡ job_proof by job proof
   kept-proof proof below =
       let off : ℕ = shape.meas + proof * shape.proof in
       let fits : proof * shape.proof + shape.proof ≤ shape.proofs * shape.proof = part-fits proof shape.proofs shape.proof below in
@@ -257,14 +225,14 @@ module _ (by : JobSetting) (job : List ℕ) (sound : IsSound by) (good : IsGood 
       ∙ ap (λ (l : List ℕ). take count l) (drop-append-add shares owns (proof * (shape.joint + shape.query) + off))
       ∙ words-flat (own_words shape job) (shape.joint + shape.query) shape.proofs proof off count length-own below fits
 
-  kept-joint : (proof : ℕ) → proof < shape.proofs → joint_words (record_shape shape) made proof ≡ job_joint shape job proof
+  kept-joint : (proof : ℕ) → proof < shape.proofs → joint_words (made_shape by) made proof ≡ job_joint shape job proof
   kept-joint proof below =
       let place : shape.shares * job_part_of shape + proof * (shape.joint + shape.query) ≡ shape.shares * job_part_of shape + proof * (shape.joint + shape.query) + 0 = omega arith in
       ap (λ (n : ℕ). words_at n shape.joint made) place
       ∙ own-at proof 0 shape.joint below (omega arith)
       ∙ take_at (job_joint shape job proof) (job_query shape job proof) shape.joint (length-words shape.joint (job_joint_in shape job proof))
 
-  kept-query : (proof : ℕ) → proof < shape.proofs → query_words (record_shape shape) made proof ≡ job_query shape job proof
+  kept-query : (proof : ℕ) → proof < shape.proofs → query_words (made_shape by) made proof ≡ job_query shape job proof
   kept-query proof below =
       let long : length (job_query shape job proof) ≡ shape.query = length-words shape.query (job_query_in shape job proof) in
       own-at proof shape.joint shape.query below (omega arith)
@@ -273,7 +241,7 @@ module _ (by : JobSetting) (job : List ℕ) (sound : IsSound by) (good : IsGood 
 
   keeps-made : KeepsJob by job made
   keeps-made = record {
-    good = good-from 0 made words-made;
+    good = none-from_words 0 made words-made;
     encoding = kept-encoding;
     proofs = λ (proof : ℕ) (below : proof < shape.proofs). record {
       joint = kept-joint proof below;
@@ -283,13 +251,13 @@ module _ (by : JobSetting) (job : List ℕ) (sound : IsSound by) (good : IsGood 
     };
   }
 
-  honest-from : (report : List ℕ) → KeepsJob by job (words_in (record_shape shape) report) → IsHonest by.circuit (record_shape shape) report
+  honest-from : (report : List ℕ) → KeepsJob by job (words_in (made_shape by) report) → IsHonest by.circuit (made_shape by) report
   honest-from report keeps =
       λ (proof : ℕ) (below : proof < shape.proofs).
-      let words = words_in (record_shape shape) report in
+      let words = words_in (made_shape by) report in
       let kept : KeepsProof by job words proof = keeps.proofs proof below in
       let P : List ℕ → Type 0 = λ own. IsValid by.circuit own (job_joint shape job proof) in
-      let Q : List ℕ → Type 0 = λ joint. IsValid by.circuit (unshared_encoding (record_shape shape) words) joint in
+      let Q : List ℕ → Type 0 = λ joint. IsValid by.circuit (unshared_encoding (made_shape by) words) joint in
       record {
         valid = subst Q (sym kept.joint) (subst P (sym keeps.encoding) kept.valid);
         seeds = job_seeds shape job proof;
@@ -299,5 +267,5 @@ module _ (by : JobSetting) (job : List ℕ) (sound : IsSound by) (good : IsGood 
 
   pub honestly_made : IsHonestlyMade by job
   honestly_made =
-      let keeps : KeepsJob by job (words_in (record_shape shape) (record_made by job)) = subst (λ (words : List ℕ). KeepsJob by job words) (sym read) keeps-made in
+      let keeps : KeepsJob by job (words_in (made_shape by) (record_made by job)) = subst (λ (words : List ℕ). KeepsJob by job words) (sym read) keeps-made in
       record { keeps = keeps; honest = honest-from (record_made by job) keeps }

@@ -20,7 +20,8 @@ use Rattle.flp_circuits.specs.Encoding.{the_number, encoding_of, range_of}
 use Rattle.flp_circuits.proofs.EncodingLemmas.{IsTaken, taken}
 use Rattle.flp_circuits.proofs.WordLemmas.{bits_of-bits, flat_map-bits}
 use Rattle.flp_circuits.proofs.Encodings.{encodings_have_length}
-use Rattle.flp_jobs.specs.Setting.{input_count, IsCircuitOf}
+use Rattle.flp_batch.specs.JobSetting.{input_count}
+use Rattle.flp_jobs.specs.Setting.{IsCircuitOf}
 use Rattle.flp_jobs.specs.Encoding.{encoding_for}
 use Rattle.flp_jobs.specs.Place.{input_fault}
 use Rattle.flp_jobs.proofs.SettingLemmas.{meas-standard}

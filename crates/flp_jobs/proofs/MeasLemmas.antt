@@ -10,7 +10,8 @@ use Rattle.flp_circuits.specs.Sizes.{input_len_of}
 use Rattle.flp_circuits.specs.Encoding.{range_of, range_fault, weight_of, weight_fault, meas_fault}
 use Rattle.flp_report.specs.JobParts.{input_in}
 use Rattle.flp_report.proofs.WordsLemmas.{length-words}
-use Rattle.flp_jobs.specs.Setting.{JobSetting, input_count, IsSetting}
+use Rattle.flp_batch.specs.JobSetting.{JobSetting, input_count}
+use Rattle.flp_jobs.specs.Setting.{IsSetting}
 use Rattle.flp_jobs.specs.Encoding.{job_input}
 use Rattle.flp_jobs.specs.Place.{input_fault, place_fault}
 use Rattle.flp_jobs.proofs.PlaceLemmas.{refused_or-none}
@@ -59,7 +60,7 @@ input-counted None circuit count input size is = cc
 -- that of a job is
 pub job-counted : (by : JobSetting) (job : List ℕ) (count : ℕ) → IsSetting by → input_fault by.params (job_input by.shape job) ≡ Some (meas.Count count) → ⊥
 job-counted by job count setting is =
-    input-counted by.params by.circuit count (job_input by.shape job) (length-words by.shape.input (input_in by.shape job) ∙ setting.input) is
+    input-counted by.params by.circuit count (job_input by.shape job) (length-words by.shape.input (input_in by.shape job) ∙ setting.shape.input) is
 
 -- so that at a good place it is not refused at all
 pub input-taken : (by : JobSetting) (job : List ℕ) → IsSetting by → place_fault by job ≡ None → input_fault by.params (job_input by.shape job) ≡ None

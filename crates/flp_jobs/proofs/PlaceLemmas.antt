@@ -11,9 +11,10 @@ use Rattle.flp_report.specs.declared.job_shape.JobShape.{JobShape}
 use Rattle.flp_report.specs.Job.{job_bad_word, word_or, word_fault}
 use Rattle.flp_jobs.specs.declared.fault.PlaceFault.{PlaceFault}
 use Rattle.flp_jobs.specs.declared.fault.PlaceFault.TheVariants.{Check}
-use Rattle.flp_jobs.specs.Setting.{JobSetting}
+use Rattle.flp_batch.specs.JobSetting.{JobSetting}
 use Rattle.flp_jobs.specs.Encoding.{job_joint, job_encoding}
-use Rattle.flp_jobs.specs.Place.{failing_check, check_fault, first_check, refused_or, place_fault, place_or, bad_place}
+use Rattle.flp_meaning.specs.Circuit.{failing_check}
+use Rattle.flp_jobs.specs.Place.{check_fault, first_check, refused_or, place_fault, place_or, bad_place}
 
 -- the search from the job of this number on
 abbrev pub bad_from : JobSetting → ℕ → List (List ℕ) → Option (ℕ × PlaceFault)

@@ -2,9 +2,7 @@
 use Rattle.std.proofs.Common.{◌≡◌, ℕ, ◌++◌, List, map, Option, Some, None, sym, ap, ap₂, subst, ◌∙◌}
 use Rattle.std.specs.Prelude.{IfSome}
 use Rattle.std.specs.List.{concat}
-use Rattle.std.specs.Io.KnownBytes.{Appends}
 use Rattle.std.proofs.KnownBytes.{Consumes-whole}
-use Rattle.flp_io.specs.Writes.{TakesPrefix}
 use Rattle.flp_report.specs.declared.header.Header.{Header}
 use Rattle.flp_report.specs.Layout.{head_bytes}
 use Rattle.flp_report.specs.JobParts.{jobs_in}
@@ -14,7 +12,7 @@ use Rattle.flp_jobs.specs.declared.file.JobFile.{JobFile}
 use Rattle.flp_jobs.specs.Place.{bad_place}
 use Rattle.flp_jobs.specs.Record.{record_made, batch_made}
 use Rattle.flp_jobs.specs.Reading.{setting_of, Reads}
-use Rattle.flp_jobs.specs.Reply.{IsProvable, IsRefusal, WritesBatch, StopsInBatch}
+use Rattle.flp_jobs.specs.Reply.{IsProvable, IsRefusal, MakesBatch}
 
 -- the batch that is written of what was read
 abbrev pub batch_written : JobFile → List ℕ
@@ -29,30 +27,16 @@ module _ (left left' : Option (List ℕ)) (file : JobFile) (reads : Reads left l
   provable : bad_place (setting_of file) 0 (jobs_in file.jobs) ≡ None → IsProvable reads.bytes (setting_of file)
   provable good = record { is_file = reads.is_file; all_good = ap (λ (l : List (List ℕ)). bad_place (setting_of file) 0 l) reads.jobs ∙ good }
 
-  -- all of it was written
-  pub WritesBatch-from : (taken taken' : Option (List ℕ)) → bad_place (setting_of file) 0 (jobs_in file.jobs) ≡ None
-      → Appends taken taken' (batch_written file) → WritesBatch left left' taken taken'
-  WritesBatch-from taken taken' good written =
+  -- and this holds of it
+  pub MakesBatch-from : (Written : (batch : List ℕ) → Type 0) → bad_place (setting_of file) 0 (jobs_in file.jobs) ≡ None → Written (batch_written file) → MakesBatch Written left left'
+  MakesBatch-from Written good written =
       record {
         bytes = reads.bytes;
         setting = setting_of file;
         read = reads.read;
         ended = reads.ended;
         provable = provable good;
-        written = subst (λ (l : List ℕ). Appends taken taken' l) batch-same written;
-      }
-
-  -- or a prefix
-  pub StopsInBatch-from : (taken taken' : Option (List ℕ)) → bad_place (setting_of file) 0 (jobs_in file.jobs) ≡ None
-      → TakesPrefix taken taken' (batch_written file) → StopsInBatch left left' taken taken'
-  StopsInBatch-from taken taken' good written =
-      record {
-        bytes = reads.bytes;
-        setting = setting_of file;
-        read = reads.read;
-        ended = reads.ended;
-        provable = provable good;
-        written = subst (λ (l : List ℕ). TakesPrefix taken taken' l) batch-same written;
+        written = subst Written batch-same written;
       }
 
   -- a place is bad

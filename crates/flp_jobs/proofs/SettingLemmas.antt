@@ -6,9 +6,12 @@ use Rattle.flp_syntax.specs.Tree.{Program}
 use Rattle.flp_circuits.specs.Sizes.{Fits, input_len_of, meas_len_of}
 use Rattle.flp_circuits.specs.Standard.{standard_program}
 use Rattle.flp_circuits.proofs.Fitting.{fitting}
+use Rattle.flp_plan.specs.Counted.{counted_lengths}
+use Rattle.flp_plan.proofs.PassedLemmas.{passed, passed_outs}
 use Rattle.flp_load.specs.Loaded.{IsRead, IsLoaded}
-use Rattle.flp_report.specs.declared.job_shape.JobHeader.{JobHeader}
-use Rattle.flp_jobs.specs.Setting.{JobSetting, IsJobShapeOf, IsCircuitOf, IsSetting}
+use Rattle.flp_report.specs.declared.header.JobHeader.{JobHeader}
+use Rattle.flp_batch.specs.JobSetting.{JobSetting, IsJobShapeBehind}
+use Rattle.flp_jobs.specs.Setting.{IsCircuitOf, IsSetting}
 
 -- a measurement has few numbers
 pub input-few : (params : Params) → Fits params → input_len_of params ≤ 65536
@@ -26,6 +29,13 @@ meas-standard (SumVec length bits chunk) = refl
 meas-standard (Histogram length chunk) = refl
 meas-standard (Multihot length weight chunk) = refl
 
+-- a loaded circuit has few outs
+pub outs-few : (text : List ℕ) (params : Option Params) (circuit : Program) → IsLoaded text params circuit → (counted_lengths circuit).outs ≤ 65536
+outs-few text params circuit loaded =
+    let totals = loaded.checked.0 in
+    let p = passed circuit totals loaded.checked.1 in
+    omega (arith, passed_outs circuit totals p, p.within.outs)
+
 -- the circuit that a text is read as
 circuit-read : (text : List ℕ) (params : Option Params) (circuit : Program) → IsRead text params circuit → IsCircuitOf params circuit
 circuit-read text (Some params) circuit read = (read.1, read.2)
@@ -35,16 +45,6 @@ pub circuit-of : (text : List ℕ) (params : Option Params) (circuit : Program) 
 circuit-of text params circuit loaded = circuit-read text params circuit loaded.read
 
 -- the setting of jobs behind a head
-pub IsSetting-from : (header : JobHeader) (by : JobSetting) → IsCircuitOf by.params by.circuit → IsJobShapeOf header by.params by.circuit by.shape → 2 ≤ header.shares → IsSetting by
+pub IsSetting-from : (header : JobHeader) (by : JobSetting) → IsCircuitOf by.params by.circuit → IsJobShapeBehind header by.params by.circuit by.shape → 2 ≤ header.shares → IsSetting by
 IsSetting-from header by circuit fits some =
-    record {
-      circuit = circuit;
-      some_shares = omega (arith, fits.shares);
-      input = fits.input;
-      meas = fits.meas;
-      joint = fits.joint;
-      prove = fits.prove;
-      query = fits.query;
-      proof = fits.proof;
-      checked = fits.checked;
-    }
+    record { header = header; circuit = circuit; some_shares = omega (arith, fits.of_record.shares); shape = fits }

@@ -6,8 +6,8 @@ use Rattle.flp_circuits.specs.Encoding.{encoding_of}
 use Rattle.flp_report.specs.declared.job_shape.JobShape.{JobShape}
 use Rattle.flp_report.specs.Words.{words}
 use Rattle.flp_report.specs.Job.{job_part_of}
-use Rattle.flp_report.specs.JobParts.{input_in, parts_in, seeds_in, job_joint_in, job_query_in}
-use Rattle.flp_jobs.specs.Setting.{JobSetting}
+use Rattle.flp_report.specs.JobParts.{input_in, parts_in, seeds_in_job, job_joint_in, job_query_in}
+use Rattle.flp_batch.specs.JobSetting.{JobSetting}
 
 -- the numbers of the input
 abbrev pub job_input : JobShape → (job : List ℕ) → List ℕ
@@ -18,12 +18,12 @@ abbrev pub given_words : JobShape → (job : List ℕ) → List ℕ
 given_words shape job = words ((shape.shares - 1) * job_part_of shape) (parts_in shape job)
 
 -- the numbers of the proofs
-abbrev pub proof_numbers : JobShape → List ℕ
-proof_numbers shape = range_with_len 0 shape.proofs
+abbrev pub job_proofs : JobShape → List ℕ
+job_proofs shape = range_with_len 0 shape.proofs
 
 -- the seeds of a proof, and its joint and query words
 abbrev pub job_seeds : JobShape → (job : List ℕ) → (proof : ℕ) → List ℕ
-job_seeds shape job proof = words shape.prove (seeds_in shape job proof)
+job_seeds shape job proof = words shape.prove (seeds_in_job shape job proof)
 
 abbrev pub job_joint : JobShape → (job : List ℕ) → (proof : ℕ) → List ℕ
 job_joint shape job proof = words shape.joint (job_joint_in shape job proof)

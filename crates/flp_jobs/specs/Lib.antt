@@ -1,10 +1,9 @@
--- The command `prove`, from the job file that it reads up to the batch that it writes.
--- faults of calls below, as those of `prove`
+-- The command `prove`, from the job file that it reads up to the batch that it writes. Which bytes are a job file is said
+-- by flp_batch.
+-- what is said of a fault
 pub mod Fault
--- what records are made by
+-- what holds of what records are made by
 pub mod Setting
--- a file: the job file that it is, or its first fault
-pub mod File
 -- what a job says, and its encoding
 pub mod Encoding
 -- which places are bad, and why
@@ -13,10 +12,8 @@ pub mod Place
 pub mod Record
 -- what reading a job file gave
 pub mod Reading
--- what `prove` wrote
+-- what `prove` wrote, and how it ended
 pub mod Reply
--- the room for the checks of an encoding
-pub mod Checks
 -- the room for making records
 pub mod Maker
 -- what is made is a batch of honest reports

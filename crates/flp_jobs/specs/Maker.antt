@@ -1,21 +1,19 @@
 -- The room for judging places and making records, one after another.
 use Rattle.std.specs.Prelude.{◌≡◌, ◌-◌, ◌*◌, vec_len}
 use Rattle.flp_report.specs.Shape.{words_of}
-use Rattle.flp_report.specs.Job.{job_part_of}
-use Rattle.flp_prove.specs.Room.{Serves}
+use Rattle.flp_report.specs.Job.{record_shape, job_part_of}
+use Rattle.flp_plan.specs.Sizes.{sizes_of}
 use Rattle.flp_jobs.specs.declared.file.JobFile.{JobFile}
 use Rattle.flp_jobs.specs.declared.maker.Maker.{Maker}
-use Rattle.flp_jobs.specs.Checks.{check_room}
-use Rattle.flp_jobs.specs.Record.{record_shape}
 
 -- it has the room that the records of this file take
 pub record IsMadeFor (file : JobFile) (maker : Maker) : Type 0 where
-  pub checker : maker.checker ≡ check_room file.loaded.plan
-  pub prover : Serves maker.prover file.loaded.plan
+  pub checker : maker.checker ≡ sizes_of file.loaded.plan
+  pub prover : maker.prover ≡ sizes_of file.loaded.plan
   pub input : vec_len maker.input ≡ file.shape.input
   pub joint : vec_len maker.joint ≡ file.shape.joint
   pub seeds : vec_len maker.seeds ≡ file.shape.prove
   pub unshared : vec_len maker.unshared ≡ job_part_of file.shape
   pub given : vec_len maker.given ≡ (file.shape.shares - 1) * job_part_of file.shape
   pub shares : vec_len maker.shares ≡ file.shape.shares * job_part_of file.shape
-  pub words : vec_len maker.words ≡ words_of (record_shape file.shape)
+  pub words : vec_len maker.words ≡ words_of (record_shape file.shape 0)

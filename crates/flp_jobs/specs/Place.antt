@@ -1,21 +1,15 @@
 -- Which places are bad, and why. From a check up to the least bad place.
-use Rattle.std.specs.Prelude.{ℕ, suc, ◌==◌, not, List, [], ◌∷◌, Option, Some, None}
-use Rattle.std.specs.List.{position_from}
+use Rattle.std.specs.Prelude.{ℕ, suc, List, [], ◌∷◌, Option, Some, None}
 use Rattle.std.specs.Option.{option_map, option_or}
 use Rattle.flp_syntax.specs.declared.syntax.Params.{Params}
-use Rattle.flp_syntax.specs.Tree.{Program}
-use Rattle.flp_meaning.specs.Circuit.{checks_of, direct}
+use Rattle.flp_meaning.specs.Circuit.{failing_check}
 use Rattle.flp_circuits.specs.declared.fault.MeasFault.{MeasFault}
 use Rattle.flp_circuits.specs.declared.fault.MeasFault.TheVariants as meas
 use Rattle.flp_circuits.specs.Encoding.{meas_fault}
 use Rattle.flp_jobs.specs.declared.fault.PlaceFault.{PlaceFault}
 use Rattle.flp_jobs.specs.declared.fault.PlaceFault.TheVariants.{Range, Weight, Check}
-use Rattle.flp_jobs.specs.Setting.{JobSetting}
-use Rattle.flp_jobs.specs.Encoding.{job_input, job_joint, job_encoding, proof_numbers}
-
--- the least check of an encoding that is not 0 under these joint words
-abbrev pub failing_check : Program → (x joint : List ℕ) → Option ℕ
-failing_check circuit x joint = position_from (λ value. not (value == 0)) 0 (checks_of circuit (direct circuit x joint))
+use Rattle.flp_batch.specs.JobSetting.{JobSetting}
+use Rattle.flp_jobs.specs.Encoding.{job_input, job_joint, job_encoding, job_proofs}
 
 -- the least check of a job's encoding that is not 0 under the joint words of this proof
 abbrev pub check_fault : JobSetting → (job : List ℕ) → (proof : ℕ) → Option PlaceFault
@@ -41,7 +35,7 @@ refused_or (Some (meas.Weight weight)) rest = Some (Weight weight)
 
 -- why the place of a job is bad: its measurement is refused, or else a check is not 0, for the least proof and then the least check
 abbrev pub place_fault : JobSetting → (job : List ℕ) → Option PlaceFault
-place_fault by job = refused_or (input_fault by.params (job_input by.shape job)) (first_check by job (proof_numbers by.shape))
+place_fault by job = refused_or (input_fault by.params (job_input by.shape job)) (first_check by job (job_proofs by.shape))
 
 -- a bad place and its fault, or else what follows
 abbrev pub place_or : ℕ → Option PlaceFault → Option (ℕ × PlaceFault) → Option (ℕ × PlaceFault)

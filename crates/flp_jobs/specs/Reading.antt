@@ -1,15 +1,39 @@
 -- What reading a job file gave.
-use Rattle.std.specs.Prelude.{ℕ, ◌≡◌, ◌≤◌, ◌⊎◌, List, Option, Some, None, IfSome, length}
+use Rattle.std.specs.Prelude.{ℕ, ◌≡◌, ◌+◌, ◌≤◌, ◌⊎◌, List, Option, Some, None, IfSome, length}
 use Rattle.std.specs.Io.KnownBytes.{Consumes, IsAtEnd}
 use Rattle.flp_report.specs.declared.fault.BatchFault.{BatchFault}
 use Rattle.flp_report.specs.declared.job_shape.JobShape.{JobShape}
 use Rattle.flp_report.specs.declared.job.Job.{Job}
-use Rattle.flp_report.specs.Job.{job_header_of, jobs_of, job_large_fault, jobs_fault, job_bad_word, word_fault}
+use Rattle.flp_report.specs.Reader.{place_of, shares_given, proofs_given, reports_left}
+use Rattle.flp_report.specs.JobReader.{JobReader}
+use Rattle.flp_report.specs.Job.{job_header_of, made_header, jobs_of, job_large_fault, jobs_fault, job_bad_word, word_fault, IsJobHead, IsJobInLimits}
 use Rattle.flp_report.specs.JobParts.{jobs_shape, jobs_count, jobs_in, job_of, job_shape_of}
+use Rattle.flp_load.specs.Loaded.{IsLoaded}
+use Rattle.flp_batch.specs.JobSetting.{JobSetting, IsJobShapeBehind}
+use Rattle.flp_batch.specs.File.{IsJobFile}
+use Rattle.flp_jobs.specs.declared.file.JobFront.{JobFront}
 use Rattle.flp_jobs.specs.declared.file.JobFile.{JobFile}
-use Rattle.flp_jobs.specs.Setting.{JobSetting, IsSetting}
-use Rattle.flp_jobs.specs.File.{IsJobFile}
-use Rattle.flp_jobs.specs.Record.{made_header}
+use Rattle.flp_jobs.specs.Setting.{IsSetting}
+
+-- what the records of the jobs behind are made by
+abbrev pub setting_behind : JobFront → JobSetting
+setting_behind front = record { params = front.loaded.params; circuit = front.loaded.plan.circuit; shape = front.shape }
+
+-- all that stands in front of the jobs was read, and this is what it says
+pub record OpensJobs (left left' : Option (List ℕ)) (front : JobFront) : Type 0 where
+  pub bytes : List ℕ
+  pub read : Consumes left left' bytes
+  pub head : IsJobHead bytes front.header
+  pub limits : IsJobInLimits front.header
+  pub text : IsLoaded front.header.text front.loaded.params front.loaded.plan.circuit
+  pub shape : IsJobShapeBehind front.header front.loaded.params front.loaded.plan.circuit front.shape
+
+-- the reader stands in front of the jobs
+pub record IsAtJobs {S : Type 0} (reader : JobReader S) (front : JobFront) : Type 0 where
+  pub place : place_of reader ≡ 28 + length front.header.text
+  pub shares : front.shape.shares ≡ shares_given reader
+  pub proofs : front.shape.proofs ≡ proofs_given reader
+  pub jobs : reports_left reader ≡ front.header.jobs
 
 -- behind a head up to this place, with so many jobs, the first fault is that a size is above its limit, or else one of the jobs
 abbrev pub IsRefusedBehind : JobShape → ℕ → ℕ → Option (List ℕ) → BatchFault → Type 0

@@ -1,16 +1,17 @@
--- What `prove` wrote of a file, and why it refused one.
-use Rattle.std.specs.Prelude.{ℕ, ◌≡◌, ◌+◌, ◌*◌, ◌⊎◌, List, Option, Some, None, IfSome}
+-- What `prove` wrote of a file, why it refused one, and how it ended.
+use Rattle.std.specs.Prelude.{ℕ, ◌≡◌, ◌≤◌, List, Option, Some, None, Result, Err, IfErr, IfSome}
 use Rattle.std.specs.Io.KnownBytes.{Consumes, Appends, IsAtEnd}
+use Rattle.flp_io.specs.Faults.{Rose}
 use Rattle.flp_io.specs.Writes.{TakesPrefix}
-use Rattle.flp_report.specs.Head.{number_at, text_end, head_size}
-use Rattle.flp_report.specs.Reads.{ConsumesAtMost, ConsumesWithin}
-use Rattle.flp_report.specs.declared.job_shape.JobShape.{JobShape}
-use Rattle.flp_report.specs.Job.{job_letters, job_bytes_of, jobs_of}
+use Rattle.flp_report.specs.Job.{jobs_of}
+use Rattle.flp_batch.specs.declared.fault.EngineFault.TheVariants.{Read, Write}
+use Rattle.flp_batch.specs.JobSetting.{JobSetting}
+use Rattle.flp_batch.specs.Format.{job_files}
+use Rattle.flp_batch.specs.File.{IsJobFile, IsFault, TakesFew}
 use Rattle.flp_jobs.specs.declared.fault.PlaceFault.{PlaceFault}
 use Rattle.flp_jobs.specs.declared.fault.ProveFault.{ProveFault}
-use Rattle.flp_jobs.specs.declared.fault.ProveFault.TheVariants.{Memory, Read, Write, File, Circuit, Place}
-use Rattle.flp_jobs.specs.Setting.{JobSetting}
-use Rattle.flp_jobs.specs.File.{HasSetting, IsJobFile, IsTextFault, IsFileFault}
+use Rattle.flp_jobs.specs.declared.fault.ProveFault.TheVariants.{File, Place}
+use Rattle.flp_jobs.specs.Fault.{IfJobs}
 use Rattle.flp_jobs.specs.Place.{bad_place}
 use Rattle.flp_jobs.specs.Record.{batch_made}
 
@@ -27,41 +28,32 @@ pub record IsBadPlace (bytes : List ℕ) (place : ℕ) (fault : PlaceFault) : Ty
 
 -- why a file is refused: by its first fault, or else by its least bad place
 abbrev pub IsRefusal : List ℕ → ProveFault → Type 0
-IsRefusal bytes (File fault) = IsFileFault bytes fault
-IsRefusal bytes (Circuit fault) = IsTextFault bytes fault
+IsRefusal bytes (File fault) = IsFault job_files bytes fault
 IsRefusal bytes (Place place fault) = IsBadPlace bytes place fault
-IsRefusal bytes Memory = ⊥
-IsRefusal bytes Read = ⊥
-IsRefusal bytes Write = ⊥
 
--- the input was read to its end and is a job file without a bad place, and the output grew by exactly its batch
-pub record WritesBatch (left left' taken taken' : Option (List ℕ)) : Type 0 where
+-- the input was read to its end and is a job file without a bad place, and this holds of its batch
+pub record MakesBatch (Written : (batch : List ℕ) → Type 0) (left left' : Option (List ℕ)) : Type 0 where
   pub bytes : List ℕ
   pub setting : JobSetting
   pub read : Consumes left left' bytes
   pub ended : IsAtEnd left'
   pub provable : IsProvable bytes setting
-  pub written : Appends taken taken' (batch_made setting bytes)
+  pub written : Written (batch_made setting bytes)
 
--- the input was read to its end and is a job file without a bad place, and the output grew by a prefix of its batch
-pub record StopsInBatch (left left' taken taken' : Option (List ℕ)) : Type 0 where
-  pub bytes : List ℕ
-  pub setting : JobSetting
-  pub read : Consumes left left' bytes
-  pub ended : IsAtEnd left'
-  pub provable : IsProvable bytes setting
-  pub written : TakesPrefix taken taken' (batch_made setting bytes)
+-- the output grew by exactly the batch
+abbrev pub WritesBatch : (left left' taken taken' : Option (List ℕ)) → Type 0
+WritesBatch left left' taken taken' = MakesBatch (Appends taken taken') left left'
 
--- the size that the head gives to a file whose jobs have this shape
-abbrev pub size_of : JobShape → List ℕ → ℕ
-size_of shape bytes = text_end 28 bytes + number_at 24 bytes * job_bytes_of shape
+-- or by a prefix of it
+abbrev pub StopsInBatch : (left left' taken taken' : Option (List ℕ)) → Type 0
+StopsInBatch left left' taken taken' = MakesBatch (TakesPrefix taken taken') left left'
 
--- of a file whose text is a circuit's, no more bytes are taken than its head gives, and one to see the end
-pub record TakesFile (left left' : Option (List ℕ)) (bytes : List ℕ) : Type 0 where
-  pub setting : JobSetting
-  pub has : HasSetting bytes setting
-  pub few : ConsumesAtMost (size_of setting.shape bytes + 1) left left'
-
--- no more bytes are taken of a file than its head gives, and one to see the end
-abbrev pub TakesFew : Option (List ℕ) → Option (List ℕ) → Type 0
-TakesFew left left' = ConsumesWithin (head_size job_letters 28 None) left left' ⊎ IfSome left (TakesFile left left')
+-- how `prove` ended, whatever it answers: what it says of the input is true, no more bytes are taken than the head gives, and a
+-- call that failed is the cause of the answer that says so
+pub record ProveEnds {T : Type 0} (left left' : Option (List ℕ)) (reads reads' writes writes' : ℕ) (result : Result T ProveFault) : Type 0 where
+  pub fault : IfErr result (λ fault. IfJobs fault (λ f. IfSome left (λ bytes. IsRefusal bytes f)))
+  pub few : TakesFew job_files left left'
+  pub read : result ≡ Err (File Read) → Rose reads reads'
+  pub write : result ≡ Err (File Write) → Rose writes writes'
+  pub later_in : reads ≤ reads'
+  pub later_out : writes ≤ writes'

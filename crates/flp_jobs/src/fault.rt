@@ -1,10 +1,9 @@
 //! Why no batch is made, or not the whole of it is written.
 ghost use Rattle.std.specs.Prelude.{◌≡◌};
-ghost use Rattle.flp_jobs.specs.Fault.{fault_from, fault_of_text};
-ghost use Rattle.flp_jobs.specs.declared.fault.ProveFault.TheVariants.{Memory as OutOfMemory};
+ghost use Rattle.flp_batch.specs.declared.fault.EngineFault.TheVariants.{Memory as OutOfMemory};
+ghost use Rattle.flp_jobs.specs.declared.fault.ProveFault.TheVariants.{File as OfFile};
 
-use flp_load::{CircuitFault, LoadFault};
-use flp_report::{BatchFault, ReadFault};
+use flp_batch::EngineFault;
 use std::alloc::AllocError;
 
 /// Why no report is made of a job.
@@ -21,45 +20,24 @@ pub enum PlaceFault {
 /// Why no batch is made of an input, or why it is not written whole.
 #[derive(Clone, Copy, Debug, PartialEq, Eq)]
 pub enum ProveFault {
-    /// Want of memory.
-    Memory,
-    /// The input failed.
-    Read,
-    /// The output failed.
-    Write,
-    /// The input is no job file.
-    File(BatchFault),
-    /// The text of the job file is no circuit's.
-    Circuit(CircuitFault),
+    /// The input is no job file, or its text no circuit's; or a call failed, or memory was not found.
+    File(EngineFault),
     /// The least place, from 0, of a job of which no report is made, and why.
     Place(u32, PlaceFault),
 }
 
+impl From<EngineFault> for ProveFault {
+    ghost from_gives = { λ engine fault. fault ≡ OfFile engine };
+
+    fn from(fault: EngineFault) -> ProveFault {
+        ProveFault::File(fault)
+    }
+}
+
 impl From<AllocError> for ProveFault {
-    ghost from_gives = { λ _ fault. fault ≡ OutOfMemory };
+    ghost from_gives = { λ _ fault. fault ≡ OfFile OutOfMemory };
 
     fn from(_: AllocError) -> ProveFault {
-        ProveFault::Memory
-    }
-}
-
-/// A reader's fault as one of `prove`.
-pub(crate) fn from_read(fault: ReadFault) -> ProveFault
-    ensures { result ≡ fault_from fault }
-{
-    match fault {
-        ReadFault::Memory => ProveFault::Memory,
-        ReadFault::Failed => ProveFault::Read,
-        ReadFault::Batch(fault) => ProveFault::File(fault),
-    }
-}
-
-/// A fault of loading the text as one of `prove`.
-pub(crate) fn from_load(fault: LoadFault) -> ProveFault
-    ensures { result ≡ fault_of_text fault }
-{
-    match fault {
-        LoadFault::Memory => ProveFault::Memory,
-        LoadFault::Circuit(fault) => ProveFault::Circuit(fault),
+        ProveFault::File(EngineFault::Memory)
     }
 }

@@ -1,25 +1,33 @@
 //! Reading a job file whole.
-ghost use Rattle.std.specs.Prelude.{◌≡◌, ◌≢◌, ◌+◌, ◌*◌, ◌≤◌, None, Err, length, IfOk, IfErr, IfSome, OnOk};
+ghost use Rattle.std.specs.Prelude.{◌≡◌, ◌≢◌, ◌+◌, ◌*◌, ◌≤◌, None, Err, length, IfOk, IfErr, IfSome, IsOk, OnOk};
 ghost use Rattle.std.specs.Io.KnownBytes.{Consumes, IsAtEnd};
-ghost use Rattle.flp_io.specs.Faults.{Rose};
-ghost use Rattle.flp_io.specs.Reads.{ConsumesSome};
+ghost use Rattle.flp_io.specs.Reads.{ConsumesAtMost, ReadsFrom};
 ghost use Rattle.flp_report.specs.Fault.{IfBatch};
-ghost use Rattle.flp_report.specs.Job.{job_large_fault, job_bytes_of, word_fault};
+ghost use Rattle.flp_report.specs.Job.{made_header, job_large_fault, job_bytes_of, word_fault};
 ghost use Rattle.flp_report.specs.JobParts.{jobs_shape, jobs_count, jobs_bytes, jobs_in};
-ghost use Rattle.flp_report.specs.Reads.{ConsumesAtMost};
-ghost use Rattle.flp_report.specs.JobReader.{source_of, SameLoan, place_of, shares_given, proofs_given, jobs_left};
-ghost use Rattle.flp_jobs.specs.Fault.{IfInput};
-ghost use Rattle.flp_jobs.specs.Setting.{input_count, IsJobShapeOf, IsCircuitOf};
-ghost use Rattle.flp_jobs.specs.Record.{made_header};
-ghost use Rattle.flp_jobs.specs.Reading.{Reads, IsWhole, IsRefusedBehind};
-ghost use Rattle.flp_jobs.specs.Reply.{IsRefusal, TakesFew};
+ghost use Rattle.flp_report.specs.Reads.{ConsumesWithin};
+ghost use Rattle.flp_report.specs.Reader.{source_of, SameLoan, place_of, shares_given, proofs_given, reports_left};
+ghost use Rattle.flp_batch.specs.Fault.{IfFile};
+ghost use Rattle.flp_batch.specs.JobSetting.{input_count, IsJobShapeBehind};
+ghost use Rattle.flp_batch.specs.Format.{job_files, front_size};
+ghost use Rattle.flp_batch.specs.File.{IsFault, TakesFew};
+ghost use Rattle.flp_jobs.specs.Setting.{IsCircuitOf};
+ghost use Rattle.flp_jobs.specs.Reading.{OpensJobs, IsAtJobs, Reads, IsWhole, IsRefusedBehind};
 
-use crate::fault::{ProveFault, from_load, from_read};
+use flp_batch::EngineFault;
 use flp_circuits::input_len;
 use flp_io::Source;
 use flp_load::{Loaded, load_circuit};
 use flp_report::{Header, JobHeader, JobReader, JobShape, Jobs, ReadFault};
 use std::alloc::Global;
+
+/// What stands in front of the jobs, with the circuit of its text and the shape that this gives to a job.
+#[derive(Drop)]
+pub(crate) struct JobFront {
+    pub(crate) header: JobHeader,
+    pub(crate) loaded: Loaded,
+    pub(crate) shape: JobShape,
+}
 
 /// A job file that was read: the circuit of its text, the shape that this gives to a job, its jobs, and the head of
 /// the batch that is made of it.
@@ -47,7 +55,7 @@ fn shape_of(header: &JobHeader, loaded: &Loaded) -> JobShape
     requires shares { header.now.shares ≤ 16 }
     requires proofs { header.now.proofs ≤ 16 }
     requires params { IsCircuitOf loaded.now.params loaded.now.plan.circuit }
-    ensures { IsJobShapeOf header.now loaded.now.params loaded.now.plan.circuit result }
+    ensures { IsJobShapeBehind header.now loaded.now.params loaded.now.plan.circuit result }
 {
     let lengths = loaded.plan.lengths();
     JobShape {
@@ -69,12 +77,44 @@ fn header_made(header: JobHeader) -> Header
     ensures { result ≡ made_header header }
 {
     Header {
+        version: 1,
         shares: header.shares,
         proofs: header.proofs,
         text: header.text,
         claims: 0,
         reports: header.jobs,
+        buckets: 1,
     }
+}
+
+/// Reads what stands in front of the jobs: the head, whose text is loaded as a circuit.
+///
+/// An error is the first fault of the file up to there; or else [`EngineFault::Read`] or [`EngineFault::Memory`].
+fn open<S: Source>(alloc: Global, reader: &mut JobReader<'_, S>) -> Result<JobFront, EngineFault>
+    requires place { place_of reader.old ≡ 0 }
+    requires readable { S.ready (source_of reader.old) }
+    ensures same { SameLoan reader.old reader.new }
+    ensures opens { IfOk result (OpensJobs (S.left (source_of reader.old)) (S.left (source_of reader.new))) }
+    ensures at { IfOk result (IsAtJobs reader.new) }
+    ensures fault { IfErr result (λ fault. IfFile fault (λ f. IfSome (S.left (source_of reader.old)) (λ bytes. IsFault job_files bytes f))) }
+    ensures no_write { result ≢ Err EngineFault.Write }
+    ensures source { ReadsFrom S.left S.faults S.ready (source_of reader.old) (source_of reader.new)
+        (ConsumesWithin (front_size job_files)) (result ≡ Err EngineFault.Read) (IsOk result) }
+{
+    let header = match reader.head(alloc) {
+        Ok(header) => header,
+        Err(fault) => return Err(EngineFault::from(fault)),
+    };
+    let loaded = match load_circuit(alloc, header.text.as_slice()) {
+        Ok(loaded) => loaded,
+        Err(fault) => return Err(EngineFault::from(fault)),
+    };
+    let shape = shape_of(&header, &loaded);
+    Ok(JobFront {
+        header,
+        loaded,
+        shape,
+    })
 }
 
 /// Reads the jobs behind a head and sees that the input ends behind them.
@@ -86,20 +126,17 @@ fn read_jobs<S: Source>(
     requires shares { shape.shares ≡ shares_given reader.old }
     requires proofs { shape.proofs ≡ proofs_given reader.old }
     requires place { place_of reader.old ≤ 65564 }
+    requires readable { S.ready (source_of reader.old) }
     ensures same { SameLoan reader.old reader.new }
-    ensures fits { OnOk result (job_large_fault shape (place_of reader.old) (jobs_left reader.old) ≡ None) }
+    ensures fits { OnOk result (job_large_fault shape (place_of reader.old) (reports_left reader.old) ≡ None) }
     ensures bytes { IfOk result (λ jobs. Consumes (S.left (source_of reader.old)) (S.left (source_of reader.new)) (jobs_bytes jobs)) }
     ensures ended { OnOk result (IsAtEnd (S.left (source_of reader.new))) }
     ensures shape { IfOk result (λ jobs. jobs_shape jobs ≡ shape) }
-    ensures count { IfOk result (λ jobs. jobs_count jobs ≡ jobs_left reader.old) }
+    ensures count { IfOk result (λ jobs. jobs_count jobs ≡ reports_left reader.old) }
     ensures words { IfOk result (λ jobs. word_fault shape 0 (jobs_in jobs) ≡ None) }
-    ensures fault { IfErr result (λ fault. IfBatch fault (IsRefusedBehind shape (place_of reader.old) (jobs_left reader.old) (S.left (source_of reader.old)))) }
-
-    // At every outcome.
-    ensures moved { ConsumesSome (S.left (source_of reader.old)) (S.left (source_of reader.new)) }
-    ensures few { ConsumesAtMost (jobs_left reader.old * job_bytes_of shape + 1) (S.left (source_of reader.old)) (S.left (source_of reader.new)) }
-    ensures failed { result ≡ Err ReadFault.Failed → Rose (S.faults (source_of reader.old)) (S.faults (source_of reader.new)) }
-    ensures later { S.faults (source_of reader.old) ≤ S.faults (source_of reader.new) }
+    ensures fault { IfErr result (λ fault. IfBatch fault (IsRefusedBehind shape (place_of reader.old) (reports_left reader.old) (S.left (source_of reader.old)))) }
+    ensures source { ReadsFrom S.left S.faults S.ready (source_of reader.old) (source_of reader.new)
+        (ConsumesAtMost (reports_left reader.old * job_bytes_of shape + 1)) (result ≡ Err ReadFault.Failed) ⊥ }
 {
     match reader.shape(shape) {
         Ok(()) => {}
@@ -118,40 +155,32 @@ fn read_jobs<S: Source>(
 /// Reads a job file whole, and loads its text as a circuit.
 ///
 /// An error is the first fault of the file, where that of the circuit comes behind those of the head and in front of
-/// [`flp_report::BatchFault::TooLarge`]; or else [`ProveFault::Read`] or [`ProveFault::Memory`].
+/// [`flp_report::BatchFault::TooLarge`]; or else [`EngineFault::Read`] or [`EngineFault::Memory`].
 pub(crate) fn read_file<S: Source>(
     alloc: Global,
     reader: &mut JobReader<'_, S>,
-) -> Result<JobFile, ProveFault>
-    requires { place_of reader.old ≡ 0 }
+) -> Result<JobFile, EngineFault>
+    requires place { place_of reader.old ≡ 0 }
+    requires readable { S.ready (source_of reader.old) }
     ensures same { SameLoan reader.old reader.new }
     ensures reads { IfOk result (Reads (S.left (source_of reader.old)) (S.left (source_of reader.new))) }
     ensures whole { IfOk result IsWhole }
-    ensures fault { IfErr result (λ fault. IfInput fault (λ f. IfSome (S.left (source_of reader.old)) (λ bytes. IsRefusal bytes f))) }
-    ensures no_write { result ≢ Err ProveFault.Write }
-
-    // At every outcome.
-    ensures moved { ConsumesSome (S.left (source_of reader.old)) (S.left (source_of reader.new)) }
-    ensures few { TakesFew (S.left (source_of reader.old)) (S.left (source_of reader.new)) }
-    ensures read { result ≡ Err ProveFault.Read → Rose (S.faults (source_of reader.old)) (S.faults (source_of reader.new)) }
-    ensures later { S.faults (source_of reader.old) ≤ S.faults (source_of reader.new) }
+    ensures fault { IfErr result (λ fault. IfFile fault (λ f. IfSome (S.left (source_of reader.old)) (λ bytes. IsFault job_files bytes f))) }
+    ensures no_write { result ≢ Err EngineFault.Write }
+    ensures source { ReadsFrom S.left S.faults S.ready (source_of reader.old) (source_of reader.new)
+        (TakesFew job_files) (result ≡ Err EngineFault.Read) ⊥ }
 {
-    let header = match reader.head(alloc) {
-        Ok(header) => header,
-        Err(fault) => return Err(from_read(fault)),
+    let front = match open(alloc, reader) {
+        Ok(front) => front,
+        Err(fault) => return Err(fault),
     };
-    let loaded = match load_circuit(alloc, header.text.as_slice()) {
-        Ok(loaded) => loaded,
-        Err(fault) => return Err(from_load(fault)),
-    };
-    let shape = shape_of(&header, &loaded);
-    match read_jobs(alloc, reader, shape) {
+    match read_jobs(alloc, reader, front.shape) {
         Ok(jobs) => Ok(JobFile {
-            header: header_made(header),
-            loaded,
-            shape,
+            header: header_made(front.header),
+            loaded: front.loaded,
+            shape: front.shape,
             jobs,
         }),
-        Err(fault) => Err(from_read(fault)),
+        Err(fault) => Err(EngineFault::from(fault)),
     }
 }

@@ -8,14 +8,14 @@ pub fn one_answer()
     ensures refusal { OneRefusal }
     ensures never_both { NeverBoth }
 {
-    flp_load::laws::one_answer();
+    flp_batch::laws::one_answer();
 }
 
 /// The batch that is made of a job file is a batch of the same circuit, with the records that are made of the jobs.
 pub fn reads_back()
     ensures { BatchesReadBack }
 {
-    flp_report::reads_back();
+    flp_load::laws::loaded_is_bounded();
 }
 
 /// The record that is made of a job keeps it: its words are words of the field, its shares sum up to the job's
@@ -24,5 +24,5 @@ pub fn reads_back()
 pub fn records_are_honest()
     ensures { RecordsAreHonest }
 {
-    flp_share::laws::sharings();
+    flp_load::laws::loaded_is_bounded();
 }

@@ -6,22 +6,25 @@
 //! on are the given words, and whose share 0 makes the sum of the shares the job's encoding with its honest proofs.
 //!
 //! The contract of [`prove`] says which bytes it writes, as a function of the bytes that it reads, and why it
-//! refuses a file: `specs/File.antt` says which bytes are a job file or which is their first fault, `specs/Place.antt`
-//! which place is bad, `specs/Record.antt` which record is made of a job. The functions in [`laws`] say that no file
-//! has two answers, and that what is written is a batch of honest reports.
+//! refuses a file: `specs/File.antt` of flp_batch says which bytes are a job file or which is their first fault,
+//! `specs/Place.antt` which place is bad, `specs/Record.antt` which record is made of a job. The functions in [`laws`]
+//! say that no file has two answers, and that what is written is a batch of honest reports.
 //!
-//! Memory is taken for the whole job file and for one record, before anything is written.
+//! | To | Use |
+//! |---|---|
+//! | make the batch of a job file | [`prove`] |
+//! | say why there is none | [`ProveFault`], [`PlaceFault`] |
+//! | know that no file has two answers, and that a batch is read again as honest reports | [`laws`] |
+//!
+//! Memory is taken for the whole job file, its circuit and one record, before anything is written.
 #![tactic(auto)]
 
-mod checks;
 mod command;
 mod fault;
 mod file;
 pub mod laws;
 mod maker;
 mod place;
-#[cfg(test)]
-mod tests;
 mod words;
 
 pub use command::prove;

@@ -7,13 +7,13 @@ ghost use Rattle.flp_jobs.specs.Reading.{setting_of, IsWhole, IsJobOf};
 ghost use Rattle.flp_jobs.specs.Record.{made_words};
 
 use crate::Memory;
-use crate::checks::Checker;
 use crate::fault::PlaceFault;
 use crate::file::JobFile;
 use crate::place::judge;
 use crate::words::{load_given, write_unshared, write_words};
 use flp_field::Fe;
 use flp_prove::Prover;
+use flp_prove::checks::Checker;
 use flp_report::Job;
 use flp_share::split;
 use std::alloc::Global;
@@ -47,8 +47,6 @@ impl Maker {
         let shape = &file.shape;
         let part = shape.part() as usize;
         let shares = shape.shares as usize;
-        let own = shape.joint as usize + shape.query as usize;
-        let words = shares * part + shape.proofs as usize * own;
         Ok(Maker {
             checker: Checker::new(alloc, &file.loaded.plan)?,
             prover: Prover::new(alloc, &file.loaded.plan)?,
@@ -58,7 +56,7 @@ impl Maker {
             unshared: vec![in alloc; Fe::ZERO; part]?,
             given: vec![in alloc; Fe::ZERO; shares.saturating_sub(1) * part]?,
             shares: vec![in alloc; Fe::ZERO; shares * part]?,
-            words: vec![in alloc; 0; words]?,
+            words: vec![in alloc; 0; shape.record().words() as usize]?,
         })
     }
 

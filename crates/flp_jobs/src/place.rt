@@ -2,16 +2,16 @@
 ghost use Rattle.std.specs.Prelude.{◌≡◌, ◌<◌, ◌≤◌, length, OnOk};
 ghost use Rattle.std.specs.Result.{result_err};
 ghost use Rattle.flp_report.specs.JobParts.{job_of};
-ghost use Rattle.flp_jobs.specs.Checks.{check_room};
-ghost use Rattle.flp_jobs.specs.Encoding.{job_input, job_joint, job_encoding, proof_numbers};
+ghost use Rattle.flp_plan.specs.Sizes.{sizes_of};
+ghost use Rattle.flp_jobs.specs.Encoding.{job_input, job_joint, job_encoding, job_proofs};
 ghost use Rattle.flp_jobs.specs.Place as place;
 ghost use Rattle.flp_jobs.specs.Reading.{setting_of, IsWhole, IsJobOf};
 
-use crate::checks::Checker;
 use crate::fault::PlaceFault;
 use crate::file::JobFile;
 use flp_circuits::{MeasFault, encode};
 use flp_field::Fe;
+use flp_prove::checks::Checker;
 use flp_report::{Job, load, load_numbers};
 
 /// Writes the encoding of a job to `x`, which has a place for each of its words, or tells why its measurement is
@@ -69,8 +69,8 @@ fn first_check(
     requires x { x.now ≡ job_encoding (setting_of file.now) (job_of job.now) }
     requires size { length x.now ≡ file.now.shape.meas }
     requires joint { length joint.old ≡ file.now.shape.joint }
-    requires made { checker.old ≡ check_room file.now.loaded.plan }
-    ensures check { result ≡ place.first_check (setting_of file.now) (job_of job.now) (proof_numbers file.now.shape) }
+    requires made { checker.old ≡ sizes_of file.now.loaded.plan }
+    ensures check { result ≡ place.first_check (setting_of file.now) (job_of job.now) (job_proofs file.now.shape) }
     ensures again { checker.new ≡ checker.old }
 {
     for proof in 0..file.shape.proofs {
@@ -100,7 +100,7 @@ pub(crate) fn judge(
     requires job { IsJobOf file.now job.now }
     requires input { length input.old ≡ file.now.shape.input }
     requires joint { length joint.old ≡ file.now.shape.joint }
-    requires made { checker.old ≡ check_room file.now.loaded.plan }
+    requires made { checker.old ≡ sizes_of file.now.loaded.plan }
     requires room { file.now.shape.meas ≤ length room.old }
     ensures fault { result ≡ place.place_fault (setting_of file.now) (job_of job.now) }
     ensures again { checker.new ≡ checker.old }

@@ -2,13 +2,13 @@
 ghost use Rattle.std.specs.Prelude.{◌≡◌, ◌-◌, ◌*◌, ◌+◌, ◌<◌, ◌++◌, None, length};
 ghost use Rattle.std.specs.List.{flat_map};
 ghost use Rattle.flp_report.specs.Shape.{words_of};
-ghost use Rattle.flp_report.specs.Job.{job_part_of};
+ghost use Rattle.flp_report.specs.Job.{record_shape, job_part_of};
 ghost use Rattle.flp_report.specs.JobParts.{job_of};
-ghost use Rattle.flp_prove.specs.Room.{Serves};
-ghost use Rattle.flp_jobs.specs.Encoding.{job_seeds, job_encoding, given_words, proof_numbers};
+ghost use Rattle.flp_plan.specs.Sizes.{sizes_of};
+ghost use Rattle.flp_jobs.specs.Encoding.{job_seeds, job_encoding, given_words, job_proofs};
 ghost use Rattle.flp_jobs.specs.Place.{place_fault};
 ghost use Rattle.flp_jobs.specs.Reading.{setting_of, IsWhole, IsJobOf};
-ghost use Rattle.flp_jobs.specs.Record.{record_shape, job_proof, unshared_words, own_words};
+ghost use Rattle.flp_jobs.specs.Record.{job_proof, unshared_words, own_words};
 
 use crate::file::JobFile;
 use crate::place::{load_joint, write_encoding};
@@ -53,9 +53,9 @@ fn write_proofs(
     requires size { length x.now ≡ file.now.shape.meas }
     requires joint { length joint.old ≡ file.now.shape.joint }
     requires seeds { length seeds.old ≡ file.now.shape.prove }
-    requires made { Serves prover.old file.now.loaded.plan }
+    requires made { prover.old ≡ sizes_of file.now.loaded.plan }
     requires proofs { length proofs.old ≡ file.now.shape.proofs * file.now.shape.proof }
-    ensures proofs { proofs.new ≡ flat_map (job_proof (setting_of file.now) (job_of job.now)) (proof_numbers file.now.shape) }
+    ensures proofs { proofs.new ≡ flat_map (job_proof (setting_of file.now) (job_of job.now)) (job_proofs file.now.shape) }
     ensures again { prover.new ≡ prover.old }
 {
     let size = file.shape.proof as usize;
@@ -92,7 +92,7 @@ pub(crate) fn write_unshared(
     requires input { length input.old ≡ file.now.shape.input }
     requires joint { length joint.old ≡ file.now.shape.joint }
     requires seeds { length seeds.old ≡ file.now.shape.prove }
-    requires made { Serves prover.old file.now.loaded.plan }
+    requires made { prover.old ≡ sizes_of file.now.loaded.plan }
     requires unshared { length unshared.old ≡ job_part_of file.now.shape }
     ensures words { unshared.new ≡ unshared_words (setting_of file.now) (job_of job.now) }
     ensures again { prover.new ≡ prover.old }
@@ -130,7 +130,7 @@ fn write_own(file: &JobFile, job: &Job, proof: u32, own: &mut [u64])
 fn write_all_own(file: &JobFile, job: &Job, own: &mut [u64])
     requires job { IsJobOf file.now job.now }
     requires own { length own.old ≡ file.now.shape.proofs * (file.now.shape.joint + file.now.shape.query) }
-    ensures { own.new ≡ flat_map (own_words file.now.shape (job_of job.now)) (proof_numbers file.now.shape) }
+    ensures { own.new ≡ flat_map (own_words file.now.shape (job_of job.now)) (job_proofs file.now.shape) }
 {
     let size = file.shape.joint as usize + file.shape.query as usize;
     for proof in 0..file.shape.proofs {
@@ -143,8 +143,8 @@ fn write_all_own(file: &JobFile, job: &Job, own: &mut [u64])
 pub(crate) fn write_words(file: &JobFile, job: &Job, shares: &[Fe], words: &mut [u64])
     requires job { IsJobOf file.now job.now }
     requires shares { length shares.now ≡ file.now.shape.shares * job_part_of file.now.shape }
-    requires words { length words.old ≡ words_of (record_shape file.now.shape) }
-    ensures { words.new ≡ shares.now ++ flat_map (own_words file.now.shape (job_of job.now)) (proof_numbers file.now.shape) }
+    requires words { length words.old ≡ words_of (record_shape file.now.shape 0) }
+    ensures { words.new ≡ shares.now ++ flat_map (own_words file.now.shape (job_of job.now)) (job_proofs file.now.shape) }
 {
     let (shared, own) = words.split_at_mut(shares.len());
     write_numbers(shares, shared);

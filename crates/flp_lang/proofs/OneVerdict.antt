@@ -1,16 +1,14 @@
 -- No list of tokens has two verdicts, no bytes have two readings, and so no text has two answers.
-use Rattle.std.proofs.Common.{ℕ, suc, ◌≤◌, ◌<◌, List, [], ◌∷◌, ◌++◌, length, Option, None, Some, ◌≡◌, refl, sym, subst, ap, ◌∙◌, ◌⊎◌, inl, inr, append_assoc, length-append, arith, drop}
+use Rattle.std.proofs.Common.{ℕ, zero, suc, ◌+◌, ◌≤◌, ◌<◌, List, [], ◌∷◌, ◌++◌, length, Option, None, Some, ◌≡◌, refl, sym, subst, ap, ◌∙◌, ◌⊎◌, inl, inr, append_assoc, length-append, length-drop, option_to_list, arith, drop}
+use Rattle.std.proofs.lemmas.List.{append-nil}
 use Rattle.flp_lang.specs.Grammar.{IsText}
 use Rattle.flp_syntax.specs.Tree.{Text}
-use Rattle.flp_lang.specs.Verdict.{Verdict, good, bad, deep, Viable, Stops, level_of, IsShallow, Judged}
+use Rattle.flp_lang.specs.Verdict.{Verdict, good, bad, deep, Viable, Stops, level_of, IsShallow, IsJudgedAs}
 use Rattle.flp_syntax.specs.Tokens.{Reads, nothing_read, piece_read, piece_of, IsStuck, AreTokens}
 use Rattle.flp_lang.specs.Parsed.{HasVerdict}
+use Rattle.flp_lang.proofs.Readings.{piece_size}
 use Rattle.flp_lang.proofs.Verdicts.{one_text}
 use Rattle.flp_syntax.specs.declared.token.Token.{Token}
-
-nil-right : {A : Type 0} (xs : List A) → xs ++ [] ≡ xs
-nil-right [] = refl
-nil-right (x ∷ xs) = ap (λ ys. x ∷ ys) (nil-right xs)
 
 -- of two fronts of a list, the longer goes on from the shorter
 longer : (p r q u : List Token) → p ++ r ≡ q ++ u → length p ≤ length q → (m : List Token) × (q ≡ p ++ m) × (r ≡ m ++ u)
@@ -45,7 +43,7 @@ sunk ts p r v w D e i h l =
     absurd (omega arith)
 
 whole-stops : (ts p r : List Token) (a : Text) → Stops p r → ts ≡ p ++ r → IsText ts a → ⊥
-whole-stops ts p [] a S e T = S a (subst (λ (x : List Token). IsText x a) (e ∙ nil-right p) T)
+whole-stops ts p [] a S e T = S a (subst (λ (x : List Token). IsText x a) (e ∙ append-nil p) T)
 whole-stops ts p (t ∷ r) a S e T = S (r, a, subst (λ (x : List Token). IsText x a) (e ∙ sym (append_assoc p (t ∷ []) r)) T)
 
 deep-split : (ts q : List Token) (t : Token) (u : List Token) → ts ≡ q ++ t ∷ u → ts ≡ (q ++ t ∷ []) ++ u
@@ -66,12 +64,12 @@ bad-deep ts p r q t u S e D e' V l = go (apart (length p) (suc (length q)))
     go (inr (inr h)) = sunk ts p r (q ++ t ∷ []) u D e (deep-split ts q t u e') (omega (arith, one-longer q t)) l
 
 -- the two verdicts of one list are one
-pub one_verdict : (ts : List Token) (a b : Verdict) → Judged ts a → Judged ts b → a ≡ b
+pub one_verdict : (ts : List Token) (a b : Verdict) → IsJudgedAs ts a → IsJudgedAs ts b → a ≡ b
 one_verdict ts (good a) (good b) J M = ap good (one_text ts a b J.0 M.0)
 one_verdict ts (good a) (bad k) J (p, r, e, n, V, S, D) = absurd (whole-stops ts p r a S e J.0)
-one_verdict ts (good a) (deep k) J (q, t, u, e, n, V, D, l) = absurd (sunk ts ts [] (q ++ t ∷ []) u J.1 (sym (nil-right ts)) (deep-split ts q t u e) (omega (arith, ap length (deep-split ts q t u e), length-append (q ++ t ∷ []) u)) l)
+one_verdict ts (good a) (deep k) J (q, t, u, e, n, V, D, l) = absurd (sunk ts ts [] (q ++ t ∷ []) u J.1 (sym (append-nil ts)) (deep-split ts q t u e) (omega (arith, ap length (deep-split ts q t u e), length-append (q ++ t ∷ []) u)) l)
 one_verdict ts (bad j) (good b) (p, r, e, n, V, S, D) M = absurd (whole-stops ts p r b S e M.0)
-one_verdict ts (deep j) (good b) (q, t, u, e, n, V, D, l) M = absurd (sunk ts ts [] (q ++ t ∷ []) u M.1 (sym (nil-right ts)) (deep-split ts q t u e) (omega (arith, ap length (deep-split ts q t u e), length-append (q ++ t ∷ []) u)) l)
+one_verdict ts (deep j) (good b) (q, t, u, e, n, V, D, l) M = absurd (sunk ts ts [] (q ++ t ∷ []) u M.1 (sym (append-nil ts)) (deep-split ts q t u e) (omega (arith, ap length (deep-split ts q t u e), length-append (q ++ t ∷ []) u)) l)
 one_verdict ts (bad j) (bad k) (p, r, e, n, V, S, D) (p', r', e', n', V', S', D') = go (apart j k)
   where
     go : (j < k) ⊎ ((j ≡ k) ⊎ (k < j)) → bad j ≡ bad k
@@ -117,6 +115,32 @@ one_stuck text j k S T =
     let g = one-reading S.2 S.5 T.2 T.5 in
     omega (arith, ap length g.1, S.3, T.3)
 
+-- ---- each text has a reading
+
+abbrev IsReadSomehow : List ℕ → Type 0
+IsReadSomehow text = ((tokens : List Token) × AreTokens text tokens) ⊎ ((at : ℕ) × IsStuck text at)
+
+piece-behind : (text : List ℕ) (token : Option Token) (size : ℕ) → piece_of text ≡ Some (token, size) → IsReadSomehow (drop size text) → IsReadSomehow text
+piece-behind text token size e (inl (tokens, reads)) = inl (option_to_list token ++ tokens, piece_read e reads)
+piece-behind text token size e (inr (at, (rest, tokens, reads, there, some, none))) =
+    let sized = piece_size text token size e in
+    inr (size + at, (rest, option_to_list token ++ tokens, piece_read e reads, omega (arith, length-drop size text, sized.1), some, none))
+
+first-piece : (text : List ℕ) (o : Option (Option Token × ℕ)) → piece_of text ≡ o → 0 < length text → ((size : ℕ) → 0 < size → IsReadSomehow (drop size text)) → IsReadSomehow text
+first-piece text None e h rest = inr (0, (text, [], nothing_read, omega arith, h, e))
+first-piece text (Some (token, size)) e h rest = piece-behind text token size e (rest size (piece_size text token size e).0)
+
+read-within : (fuel : ℕ) (text : List ℕ) → length text ≤ fuel → IsReadSomehow text
+read-within fuel [] h = inl ([], nothing_read)
+read-within zero (byte ∷ more) h = absurd (omega arith)
+read-within (suc fuel) (byte ∷ more) h =
+    first-piece (byte ∷ more) (piece_of (byte ∷ more)) refl (omega arith)
+    (λ size some. read-within fuel (drop size (byte ∷ more)) (omega (arith, length-drop size (byte ∷ more), some)))
+
+-- a text is tokens, or stuck at a byte
+pub some_reading : (text : List ℕ) → ((tokens : List Token) × AreTokens text tokens) ⊎ ((at : ℕ) × IsStuck text at)
+some_reading text = read-within (length text) text (omega arith)
+
 -- no text has two verdicts
 pub one_answer : (text : List ℕ) (a b : Verdict) → HasVerdict text a → HasVerdict text b → a ≡ b
-one_answer text a b (ts, L, J) (us, M, N) = one_verdict ts a b J (subst (λ (x : List Token). Judged x b) (one_tokens text us ts M.1 L.1) N)
+one_answer text a b (ts, L, J) (us, M, N) = one_verdict ts a b J (subst (λ (x : List Token). IsJudgedAs x b) (one_tokens text us ts M.1 L.1) N)

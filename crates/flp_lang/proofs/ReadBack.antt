@@ -1,9 +1,9 @@
 -- A circuit that was parsed and printed is parsed again.
 use Rattle.std.proofs.Common.{ℕ, ◌+◌, ◌≤◌, ◌≡◌, List, [], ◌∷◌, ◌++◌, length, refl, sym, subst, ap, ◌∙◌, arith}
-use Rattle.flp_lang.specs.Verdict.{good, bad, deep, moved, levels_after, Judged}
+use Rattle.flp_lang.specs.Verdict.{good, bad, deep, levels_behind, levels_after, IsJudgedAs}
 use Rattle.flp_lang.specs.Parsed.{IsParsed, IsParseFault}
 use Rattle.flp_lang.specs.Print.{printed_tokens}
-use Rattle.flp_lang.specs.Spelling.{spelled}
+use Rattle.flp_lang.specs.Spelling.{tokens_text}
 use Rattle.flp_lang.specs.Bare.{bare}
 use Rattle.flp_lang.specs.ReadBack.{IsReadBack}
 use Rattle.flp_syntax.specs.Tokens.{IsLexed}
@@ -23,11 +23,11 @@ ShallowFrom l tokens = (front rest : List Token) → tokens ≡ front ++ rest �
 
 clean : (tokens : List Token) (l : ℕ × ℕ) → AreReal tokens → ShallowFrom l tokens → Clean l tokens
 clean [] l h S = S [] [] refl
-clean (t ∷ s) l h S = (S [] (t ∷ s) refl, h.0, clean s (moved t l) h.1 (λ front rest e. S (t ∷ front) rest (ap (λ (x : List Token). t ∷ x) e)))
+clean (t ∷ s) l h S = (S [] (t ∷ s) refl, h.0, clean s (levels_behind t l) h.1 (λ front rest e. S (t ∷ front) rest (ap (λ (x : List Token). t ∷ x) e)))
 
 clean-real : (tokens : List Token) (l : ℕ × ℕ) → Clean l tokens → AreReal tokens
 clean-real [] l c = tt
-clean-real (t ∷ s) l c = (c.1, clean-real s (moved t l) c.2)
+clean-real (t ∷ s) l c = (c.1, clean-real s (levels_behind t l) c.2)
 
 clean-shallow : (tokens : List Token) (l : ℕ × ℕ) → Clean l tokens → ShallowFrom l tokens
 clean-shallow tokens l c [] rest e = fits l tokens c
@@ -35,20 +35,20 @@ clean-shallow [] l c (t ∷ front) rest e = cc
 clean-shallow (u ∷ s) l c (t ∷ front) rest e =
     let i : u ≡ t = cc in
     let j : s ≡ front ++ rest = cc in
-    subst (λ (x : Token). (levels_after (moved x l) front).0 + (levels_after (moved x l) front).1 ≤ 64) i (clean-shallow s (moved u l) c.2 front rest j)
+    subst (λ (x : Token). (levels_after (levels_behind x l) front).0 + (levels_after (levels_behind x l) front).1 ≤ 64) i (clean-shallow s (levels_behind u l) c.2 front rest j)
 
 record Again (circuit : Text) (printed : List ℕ) : Type 0 where
   text : Text
   tokens : List Token
   lexed : IsLexed printed tokens
-  judged : Judged tokens (good text)
+  judged : IsJudgedAs tokens (good text)
   same : bare text ≡ bare circuit
 
-again : (source : List ℕ) (circuit : Text) → IsParsed source circuit → length (spelled (printed_tokens circuit)) ≤ 65536 → Again circuit (spelled (printed_tokens circuit))
+again : (source : List ℕ) (circuit : Text) → IsParsed source circuit → length (tokens_text (printed_tokens circuit)) ≤ 65536 → Again circuit (tokens_text (printed_tokens circuit))
 again source circuit P short =
     let tokens = P.0 in
     let lexed : IsLexed source tokens = P.1 in
-    let judged : Judged tokens (good circuit) = P.2 in
+    let judged : IsJudgedAs tokens (good circuit) = P.2 in
     let small : 0 + 0 ≤ 64 = omega arith in
     let r = circuit_printed judged.0.1 (clean tokens (0, 0) (real_tokens lexed.1) judged.1) 0 [] small in
     record {
@@ -73,11 +73,11 @@ no-fault circuit printed a (Syntax k) F = let e : bad k ≡ good a.text = one_an
 no-fault circuit printed a (Depth k) F = let e : deep k ≡ good a.text = one_answer printed (deep k) (good a.text) F (a.tokens, a.lexed, a.judged) in cc
 no-fault circuit printed a fault F = elim F [ ]
 
-pub read_back : (circuit : Text) (source : List ℕ) → IsParsed source circuit → length (spelled (printed_tokens circuit)) ≤ 65536 → IsReadBack circuit (spelled (printed_tokens circuit))
+pub read_back : (circuit : Text) (source : List ℕ) → IsParsed source circuit → length (tokens_text (printed_tokens circuit)) ≤ 65536 → IsReadBack circuit (tokens_text (printed_tokens circuit))
 read_back circuit source P short =
     let a = again source circuit P short in
-    record { found = (a.text, (a.tokens, a.lexed, a.judged), a.same); same = one-circuit circuit (spelled (printed_tokens circuit)) a; no_fault = no-fault circuit (spelled (printed_tokens circuit)) a }
+    record { found = (a.text, (a.tokens, a.lexed, a.judged), a.same); same = one-circuit circuit (tokens_text (printed_tokens circuit)) a; no_fault = no-fault circuit (tokens_text (printed_tokens circuit)) a }
 
 -- the same of bytes that are the printed ones
-pub bytes_read_back : (circuit : Text) (bytes : List ℕ) → bytes ≡ spelled (printed_tokens circuit) → (source : List ℕ) → IsParsed source circuit → length bytes ≤ 65536 → IsReadBack circuit bytes
+pub bytes_read_back : (circuit : Text) (bytes : List ℕ) → bytes ≡ tokens_text (printed_tokens circuit) → (source : List ℕ) → IsParsed source circuit → length bytes ≤ 65536 → IsReadBack circuit bytes
 bytes_read_back circuit bytes e source P short = subst (IsReadBack circuit) (sym e) (read_back circuit source P (subst (λ (b : List ℕ). length b ≤ 65536) e short))

@@ -6,6 +6,7 @@ use Rattle.std.proofs.lemmas.Grind.{common_steps}
 use Rattle.std.proofs.lemmas.List.Folds.{length-prefix_len}
 use Rattle.std.specs.List.{prefix_len}
 use Rattle.std.specs.Str.{bytes_eq}
+use Rattle.std.proofs.lemmas.List.{append-nil}
 use Rattle.flp_field.specs.Word.{modulus}
 use Rattle.flp_lang.proofs.MarkTests.{bytes_eq-true}
 use Rattle.flp_syntax.specs.Tokens.{Reads, nothing_read, piece_read, piece_of, is_blank, is_letter, is_digit, is_name_byte, is_comment_byte, digits_value, symbol, number_piece, symbol_piece}
@@ -13,10 +14,6 @@ use Rattle.flp_syntax.specs.declared.token.Mark.{Mark}
 use Rattle.flp_syntax.specs.declared.token.Mark.TheVariants.{DotDot}
 use Rattle.flp_syntax.specs.declared.token.Token.TheVariants.{Number, Fixed}
 use Rattle.flp_syntax.specs.declared.token.Token.{Token}
-
-append-nil : {A : Type 0} (xs : List A) → xs ++ [] ≡ xs
-append-nil [] = refl
-append-nil (x ∷ xs) = ap (λ ys. x ∷ ys) (append-nil xs)
 
 -- one piece more at the end
 pub reads-more : {text rest : List ℕ} {tokens : List Token} → Reads text rest tokens → (token : Option Token) (size : ℕ) → piece_of rest ≡ Some (token, size) → Reads text (drop size rest) (tokens ++ option_to_list token)

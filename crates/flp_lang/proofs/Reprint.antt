@@ -1,6 +1,6 @@
 -- Tokens that were read, and are printed again: what is kept of them.
 use Rattle.std.proofs.Common.{ℕ, suc, ◌+◌, ◌-◌, ◌≤◌, ◌≡◌, List, [], ◌∷◌, subst, arith}
-use Rattle.flp_lang.specs.Verdict.{moved}
+use Rattle.flp_lang.specs.Verdict.{levels_behind}
 use Rattle.flp_syntax.specs.declared.token.Token.{Token}
 use Rattle.flp_syntax.specs.declared.token.Token.TheVariants.{Fixed}
 use Rattle.flp_syntax.specs.declared.token.Mark.TheVariants.{CloseBracket, Close}
@@ -9,7 +9,7 @@ use Rattle.flp_lang.proofs.WellFormed.{IsReal}
 -- tokens that a text can have, under these levels, with no 65th level
 abbrev pub Clean : ℕ × ℕ → List Token → Type 0
 Clean l [] = l.0 + l.1 ≤ 64
-Clean l (t ∷ s) = (l.0 + l.1 ≤ 64) × IsReal t × Clean (moved t l) s
+Clean l (t ∷ s) = (l.0 + l.1 ≤ 64) × IsReal t × Clean (levels_behind t l) s
 
 -- the tokens `put u`, from number k on, are read as something that is v but for its token numbers, and then come the tokens u
 pub record Reprint {A B : Type 0} (R : ℕ → List Token → ℕ → List Token → A → Type 0) (bare : A → B) (v : B) (put : List Token → List Token) (l : ℕ × ℕ) (k : ℕ) (u : List Token) : Type 0 where

@@ -8,7 +8,7 @@ use Rattle.std.specs.List.{prefix_len}
 use Rattle.flp_field.specs.Word.{modulus}
 use Rattle.flp_syntax.specs.Tokens.{Reads, nothing_read, piece_read, piece_of, AreTokens, is_blank, is_letter, is_digit, is_name_byte, digits_from, digits_value, reserved, word_token, number_piece}
 use Rattle.flp_syntax.specs.WellFormed.{IsName, IsUnreserved, are_name_bytes}
-use Rattle.flp_lang.specs.Spelling.{mark_text, spelling, spelled_on, spelled}
+use Rattle.flp_lang.specs.Spelling.{mark_text, spelling, rest_text, tokens_text}
 use Rattle.flp_lang.proofs.WellFormed.{IsReal, AreReal}
 use Rattle.flp_syntax.specs.declared.token.Token.{Token}
 use Rattle.flp_syntax.specs.declared.token.Token.TheVariants.{Number, Name, Fixed}
@@ -188,19 +188,19 @@ token-piece (Name n) b x h = name-piece n b x h
 token-piece (Fixed m) b x h = mark-piece m b x
 
 -- what begins further tokens ends the one before
-token-before : (t : Token) (more : List Token) → IsReal t → piece_of (spelling t ++ spelled_on more) ≡ Some (Some t, length (spelling t))
-unfolding spelled_on
+token-before : (t : Token) (more : List Token) → IsReal t → piece_of (spelling t ++ rest_text more) ≡ Some (Some t, length (spelling t))
+unfolding rest_text
 token-before t [] h = token-piece t false [] h
-token-before t (u ∷ more) h = token-piece t true (spelling u ++ spelled_on more) h
+token-before t (u ∷ more) h = token-piece t true (spelling u ++ rest_text more) h
 
-one-read : (t : Token) (more : List Token) → IsReal t → Reads (spelled_on more) [] more → Reads (spelling t ++ spelled_on more) [] (t ∷ more)
-one-read t more h r = piece_read {token = Some t} (token-before t more h) (subst (λ (text : List ℕ). Reads text [] more) (sym (drop-append_seam (spelling t) (spelled_on more))) r)
+one-read : (t : Token) (more : List Token) → IsReal t → Reads (rest_text more) [] more → Reads (spelling t ++ rest_text more) [] (t ∷ more)
+one-read t more h r = piece_read {token = Some t} (token-before t more h) (subst (λ (text : List ℕ). Reads text [] more) (sym (drop-append_seam (spelling t) (rest_text more))) r)
 
-more-read : (tokens : List Token) → AreReal tokens → Reads (spelled_on tokens) [] tokens
-unfolding spelled_on
+more-read : (tokens : List Token) → AreReal tokens → Reads (rest_text tokens) [] tokens
+unfolding rest_text
 more-read [] h = piece_read {token = None} {size = 1} refl nothing_read
 more-read (t ∷ more) h = piece_read {token = None} {size = 1} refl (one-read t more h.0 (more-read more h.1))
 
-pub spelled_read : (tokens : List Token) → AreReal tokens → AreTokens (spelled tokens) tokens
+pub spelled_read : (tokens : List Token) → AreReal tokens → AreTokens (tokens_text tokens) tokens
 spelled_read [] h = piece_read {token = None} {size = 1} refl nothing_read
 spelled_read (t ∷ more) h = one-read t more h.0 (more-read more h.1)

@@ -8,7 +8,7 @@ use Rattle.std.specs.List.{prefix_len}
 use Rattle.std.specs.Str.{bytes_eq}
 use Rattle.flp_field.specs.Word.{modulus}
 use Rattle.flp_syntax.specs.Tokens.{Reads, nothing_read, piece_read, piece_of, IsLexed, is_blank, is_letter, is_digit, is_name_byte, digits_value, reserved, symbol, word_token, number_piece, symbol_piece}
-use Rattle.flp_lang.specs.Verdict.{good, Judged}
+use Rattle.flp_lang.specs.Verdict.{good, IsJudgedAs}
 use Rattle.flp_lang.specs.Run.{verdict}
 use Rattle.flp_syntax.specs.View.{text_of}
 use Rattle.flp_lang.proofs.Verdicts.{judged}
@@ -42,8 +42,8 @@ on {k} {t} {s} h = let i = h.room in record { room = omega arith; real = h.real.
 here : {k : ℕ} {t : Token} {s : List Token} → Rest k (t ∷ s) → IsPlace k
 here h = let i = h.room in omega arith
 
-named : {k : ℕ} {n : List ℕ} {s : List Token} → Rest k (Name n ∷ s) → IsName n
-named h = h.real.0
+name_well : {k : ℕ} {n : List ℕ} {s : List Token} → Rest k (Name n ∷ s) → IsName n
+name_well h = h.real.0
 
 place_of_index : (v : Index) → IndexIsWell v → IsPlace (index_at v)
 place_of_index (index_number at value) w = w
@@ -106,7 +106,7 @@ mutual
 
   index_prim_well : {k k' : ℕ} {s s' : List Token} {v : Index} → IsIndexPrim k s k' s' v → Rest k s → IndexIsWell v × Rest k' s'
   index_prim_well an_index_number h = (here h, on h)
-  index_prim_well an_index_var h = ((here h, named h), on h)
+  index_prim_well an_index_var h = ((here h, name_well h), on h)
   index_prim_well (an_index_group d) h = let a = index_well d (on h) in (a.0, on a.1)
 
 mutual
@@ -138,9 +138,9 @@ mutual
   prim_well (a_joint d) h = let a = index_well d (on (on h)) in ((here h, a.0), on a.1)
   prim_well (a_meas d) h = let a = index_well d (on (on h)) in ((here h, a.0), on a.1)
   prim_well (a_meas_or_zero d) h = let a = index_well d (on (on (on h))) in ((here h, a.0), on a.1)
-  prim_well (a_sum d e f) h = let a = index_well d (on (on (on h))) in let b = index_well e (on a.1) in let g = expr_well f (on b.1) in ((here h, named (on h), a.0, b.0, g.0), on g.1)
-  prim_well (a_call d) h = let a = args_well d (on (on h)) in ((here h, named h, a.0, a.1), on a.2)
-  prim_well a_var h = ((here h, named h), on h)
+  prim_well (a_sum d e f) h = let a = index_well d (on (on (on h))) in let b = index_well e (on a.1) in let g = expr_well f (on b.1) in ((here h, name_well (on h), a.0, b.0, g.0), on g.1)
+  prim_well (a_call d) h = let a = args_well d (on (on h)) in ((here h, name_well h, a.0, a.1), on a.2)
+  prim_well a_var h = ((here h, name_well h), on h)
   prim_well (a_group d) h = let a = expr_well d (on h) in (a.0, on a.1)
 
   args_well : {k k' : ℕ} {s s' : List Token} {v : List Argument} → IsArgs k s k' s' v → Rest k s → HasArg (arguments v) × ArgumentsAreWell (arguments v) × Rest k' s'
@@ -152,13 +152,13 @@ mutual
 
   arg_well : {k k' : ℕ} {s s' : List Token} {v : Argument} → IsArg k s k' s' v → Rest k s → ArgumentIsWell v × Rest k' s'
   arg_well (an_arg d) h = expr_well d h
-  arg_well (an_each_arg d e f) h = let a = index_well d (on (on (on h))) in let b = index_well e (on a.1) in let g = args_well f (on b.1) in ((here h, named (on h), a.0, b.0, g.0, g.1), on g.2)
+  arg_well (an_each_arg d e f) h = let a = index_well d (on (on (on h))) in let b = index_well e (on a.1) in let g = args_well f (on b.1) in ((here h, name_well (on h), a.0, b.0, g.0, g.1), on g.2)
 
 mutual
   stmt_well : {k k' : ℕ} {s s' : List Token} {v : Statement} → IsStmt k s k' s' v → Rest k s → StatementIsWell v × Rest k' s'
   stmt_well (a_check d) h = let a = expr_well d (on h) in ((here h, a.0), on a.1)
   stmt_well (an_out d) h = let a = expr_well d (on h) in ((here h, a.0), on a.1)
-  stmt_well (an_each d e f) h = let a = index_well d (on (on (on h))) in let b = index_well e (on a.1) in let g = stmts_well f (on b.1) in ((here h, named (on h), a.0, b.0, g.0, g.1), on g.2)
+  stmt_well (an_each d e f) h = let a = index_well d (on (on (on h))) in let b = index_well e (on a.1) in let g = stmts_well f (on b.1) in ((here h, name_well (on h), a.0, b.0, g.0, g.1), on g.2)
 
   stmts_well : {k k' : ℕ} {s s' : List Token} {v : List Statement} → IsStmts k s k' s' v → Rest k s → HasStmt (statements v) × StatementsAreWell (statements v) × Rest k' s'
   stmts_well (some_stmts d m) h = let a = stmt_well d h in let b = more_stmts_well m a.1 in (tt, (a.0, b.0), b.1)
@@ -181,7 +181,7 @@ kind_well (a_poly d m) h = (tt, coefs_rest m (coef_rest d (on h)))
 kind_well (a_psum d) h = kind_well d (on (on h))
 
 decl_well : {k k' : ℕ} {s s' : List Token} {v : Declaration} → IsDecl k s k' s' v → Rest k s → (IsPlace v.at × IsName v.name × KindIsWell v.kind) × Rest k' s'
-decl_well (a_decl d) h = let a = kind_well d (on (on (on h))) in ((here h, named (on h), a.0), on a.1)
+decl_well (a_decl d) h = let a = kind_well d (on (on (on h))) in ((here h, name_well (on h), a.0), on a.1)
 
 decls_well : {k k' : ℕ} {s s' : List Token} {v : List Declaration} → MoreDecls k s k' s' v → Rest k s → DeclarationsAreWell v × Rest k' s'
 decls_well no_decl h = (tt, h)
@@ -256,6 +256,6 @@ real_tokens (piece_read {text = text} {token = token} {tokens = tokens} e d) = r
 pub parsed_well : (text : List ℕ) (tokens : List Token) (r : Result Circuit LangFault) → IsLexed text tokens → length tokens ≤ length text → IfOk r (λ c. verdict tokens ≡ good (text_of c)) → IfOk r (λ c. IsWellFormed (text_of c))
 parsed_well text tokens (Err f) L h e = tt
 parsed_well text tokens (Ok c) L h e =
-    let J : Judged tokens (good (text_of c)) = subst (Judged tokens) e (judged tokens) in
+    let J : IsJudgedAs tokens (good (text_of c)) = subst (IsJudgedAs tokens) e (judged tokens) in
     let i = L.0 in
     circuit_well J.0.1 (record { room = omega arith; real = real_tokens L.1 })

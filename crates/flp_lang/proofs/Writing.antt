@@ -1,6 +1,6 @@
 -- What was written, step by step.
 use Rattle.std.proofs.Common.{ℕ, List, [], ◌∷◌, ◌++◌, ◌≡◌, sym, ap, ◌∙◌, append_assoc, ◌+◌, ◌<◌, suc, length, drop, get_or, map, add-one, drop-cons, Result, Ok, Err, OnOk}
-use Rattle.flp_lang.specs.Spelling.{mark_text, spelling, spelled_on, spelled}
+use Rattle.flp_lang.specs.Spelling.{mark_text, spelling, rest_text, tokens_text}
 use Rattle.flp_lang.specs.Written.{Wrote, WroteAll}
 use Rattle.flp_syntax.specs.declared.token.Mark.{Mark}
 use Rattle.flp_syntax.specs.declared.token.Token.{Token}
@@ -12,8 +12,8 @@ use Rattle.flp_syntax.specs.View.{index_of, index_item_of, index_item_of_roll, t
 
 -- a token behind a space
 wrote_token : (old new : List ℕ) (token : Token) → new ≡ old ++ (32 ∷ spelling token) → Wrote old (λ s. token ∷ s) new
-unfolding spelled_on
-wrote_token old new token e = λ s. sym (append_assoc old (32 ∷ spelling token) (spelled_on s)) ∙ ap (λ x. x ++ spelled_on s) (sym e)
+unfolding rest_text
+wrote_token old new token e = λ s. sym (append_assoc old (32 ∷ spelling token) (rest_text s)) ∙ ap (λ x. x ++ rest_text s) (sym e)
 
 pub wrote_word : (r : Result (Unit {0}) AllocError) (old new word : List ℕ) (token : Token) → word ≡ spelling token → OnOk r (new ≡ old ++ (32 ∷ word)) → OnOk r (Wrote old (λ s. token ∷ s) new)
 wrote_word (Ok x) old new word token e h = wrote_token old new token (h ∙ ap (λ w. old ++ (32 ∷ w)) e)
@@ -37,9 +37,9 @@ wrote_then (Err x) old mid new f g a b = tt
 
 -- a first token, and what was written behind it
 pub wrote_all : (first : Mark) (old new : List ℕ) (put : List Token → List Token) → old ≡ mark_text first → Wrote old put new → WroteAll (λ s. Fixed first ∷ put s) new
-wrote_all first old new put e w = λ s. ap (λ b. b ++ spelled_on (put s)) (sym e) ∙ w s
+wrote_all first old new put e w = λ s. ap (λ b. b ++ rest_text (put s)) (sym e) ∙ w s
 
 -- and LF at the end
-pub wrote_text : (put : List Token → List Token) (old new : List ℕ) → WroteAll put old → new ≡ old ++ (10 ∷ []) → new ≡ spelled (put [])
-unfolding spelled_on
+pub wrote_text : (put : List Token → List Token) (old new : List ℕ) → WroteAll put old → new ≡ old ++ (10 ∷ []) → new ≡ tokens_text (put [])
+unfolding rest_text
 wrote_text put old new w e = e ∙ sym (w [])

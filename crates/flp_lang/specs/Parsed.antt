@@ -2,14 +2,14 @@
 use Rattle.std.specs.Prelude.{ℕ, ◌≡◌, ◌<◌, ◌≤◌, List, length}
 use Rattle.flp_syntax.specs.Tokens.{IsLexed, IsStuck}
 use Rattle.flp_syntax.specs.Tree.{Text}
-use Rattle.flp_lang.specs.Verdict.{Verdict, good, bad, deep, Judged}
+use Rattle.flp_lang.specs.Verdict.{Verdict, good, bad, deep, IsJudgedAs}
 use Rattle.flp_syntax.specs.declared.fault.LangFault.{LangFault}
 use Rattle.flp_syntax.specs.declared.fault.LangFault.TheVariants.{Memory, TextLength, Lex, Syntax, Depth}
 use Rattle.flp_syntax.specs.declared.token.Token.{Token}
 
 -- the text is tokens, and the tokens have this verdict
 abbrev pub HasVerdict : List ℕ → Verdict → Type 0
-HasVerdict text verdict = (tokens : List Token) × IsLexed text tokens × Judged tokens verdict
+HasVerdict text verdict = (tokens : List Token) × IsLexed text tokens × IsJudgedAs tokens verdict
 
 -- the text is this circuit's
 abbrev pub IsParsed : List ℕ → Text → Type 0

@@ -6,10 +6,10 @@ use Rattle.flp_syntax.specs.declared.syntax.Params.{Params}
 use Rattle.flp_syntax.specs.declared.syntax.Params.TheVariants as params
 use Rattle.flp_lang.specs.declared.standard.Which.{Which}
 use Rattle.flp_lang.specs.declared.standard.Which.TheVariants as whiches
-use Rattle.flp_lang.specs.Plan as plan
-use Rattle.flp_lang.specs.Plan.{Plan, done, next, fixed, range, named, meas_at, after_token, at_end}
+use Rattle.flp_lang.specs.Ahead as ahead
+use Rattle.flp_lang.specs.Ahead.{Ahead, done, next, fixed, range, name_or_call, meas_at, after_token, at_end}
 use Rattle.flp_lang.specs.Marks.{is_mark}
-use Rattle.flp_lang.specs.Verdict.{Verdict, good, bad, deep, moved}
+use Rattle.flp_lang.specs.Verdict.{Verdict, good, bad, deep, levels_behind}
 use Rattle.flp_syntax.specs.declared.fault.LangFault.{LangFault}
 use Rattle.flp_syntax.specs.declared.fault.LangFault.TheVariants.{Memory, Syntax, Depth}
 use Rattle.flp_lang.specs.declared.parser.Start.{Start}
@@ -26,7 +26,7 @@ too_deep (Fixed OpenBracket) l = nat_lt 63 (l.0 + l.1)
 too_deep (Fixed Psum) l = nat_lt 63 (l.0 + l.1)
 too_deep _ l = false
 
-abbrev pub go_on : ℕ → Bool → Option Plan → (Plan → Verdict) → Verdict
+abbrev pub go_on : ℕ → Bool → Option Ahead → (Ahead → Verdict) → Verdict
 go_on k b None f = bad k
 go_on k true (Some P) f = deep k
 go_on k false (Some P) f = f P
@@ -35,13 +35,13 @@ abbrev pub finish : ℕ → Option Text → Verdict
 finish k None = bad k
 finish k (Some text) = good text
 
-unfoldable pub run : ℕ × ℕ → ℕ → Plan → List Token → Verdict
+unfoldable pub run : ℕ × ℕ → ℕ → Ahead → List Token → Verdict
 run l k P [] = finish k (at_end P)
-run l k P (t ∷ s) = go_on k (too_deep t l) (after_token k P t) (λ P'. run (moved t l) (suc k) P' s)
+run l k P (t ∷ s) = go_on k (too_deep t l) (after_token k P t) (λ P'. run (levels_behind t l) (suc k) P' s)
 
 -- the verdict on all the tokens
 abbrev pub verdict : List Token → Verdict
-verdict tokens = run (0, 0) 0 (next plan.circuit done) tokens
+verdict tokens = run (0, 0) 0 (next ahead.circuit done) tokens
 
 -- the fault is the verdict's, or want of memory
 abbrev pub IsFault : LangFault → Verdict → Type 0
@@ -50,8 +50,8 @@ IsFault (Syntax k) v = v ≡ bad k
 IsFault (Depth k) v = v ≡ deep k
 IsFault _ v = ⊥
 
--- What was read leads from the plan to the next one, with the same verdict; or the verdict is this fault.
-abbrev pub Runs : {A : Type 0} → ℕ × ℕ → ℕ → Plan → List Token → Result A LangFault → (A → ℕ × ℕ) → ℕ → (A → Plan) → List Token → Type 0
+-- What was read leads from what is ahead to what is ahead behind it, with the same verdict; or the verdict is this fault.
+abbrev pub Runs : {A : Type 0} → ℕ × ℕ → ℕ → Ahead → List Token → Result A LangFault → (A → ℕ × ℕ) → ℕ → (A → Ahead) → List Token → Type 0
 Runs l k P s (Ok a) l' k' P' s' = run l k P s ≡ run (l' a) k' (P' a) s'
 Runs l k P s (Err fault) l' k' P' s' = IsFault fault (run l k P s)
 
@@ -111,18 +111,18 @@ start_of (Fixed Sum ∷ s) = Starts.Sum
 start_of (Fixed Open ∷ s) = Starts.Group
 start_of _ = Starts.Other
 
--- the plans of primary expressions from their first token on
-abbrev pub joint_plan : ℕ → (Tree → Plan) → Plan
-joint_plan k K = fixed Joint (fixed OpenBracket (next plan.index (λ v. fixed CloseBracket (K (joint k v)))))
+-- what is ahead of primary expressions from their first token on
+abbrev pub joint_ahead : ℕ → (Tree → Ahead) → Ahead
+joint_ahead k K = fixed Joint (fixed OpenBracket (next ahead.index (λ v. fixed CloseBracket (K (joint k v)))))
 
-abbrev pub meas_plan : ℕ → (Tree → Plan) → Plan
-meas_plan k K = fixed Meas (next plan.question (λ b. fixed OpenBracket (next plan.index (λ v. fixed CloseBracket (K (meas_at k b v))))))
+abbrev pub meas_ahead : ℕ → (Tree → Ahead) → Ahead
+meas_ahead k K = fixed Meas (next ahead.question (λ b. fixed OpenBracket (next ahead.index (λ v. fixed CloseBracket (K (meas_at k b v))))))
 
-abbrev pub sum_plan : ℕ → (Tree → Plan) → Plan
-sum_plan k K = fixed Sum (range (λ n from to. next plan.expr (λ v. fixed Close (K (sum k n from to v)))))
+abbrev pub sum_ahead : ℕ → (Tree → Ahead) → Ahead
+sum_ahead k K = fixed Sum (range (λ n from to. next ahead.expr (λ v. fixed Close (K (sum k n from to v)))))
 
-abbrev pub named_plan : ℕ → (Tree → Plan) → Plan
-named_plan k K = next plan.a_naming (λ n. next plan.called (λ v. K (named k n v)))
+abbrev pub named_ahead : ℕ → (Tree → Ahead) → Ahead
+named_ahead k K = next ahead.a_naming (λ n. next ahead.called (λ v. K (name_or_call k n v)))
 
 -- whether a statement, or a coefficient, begins here
 abbrev pub starts_stmt : List Token → Bool
@@ -136,15 +136,15 @@ starts_coef (Number n ∷ s) = true
 starts_coef (Fixed Minus ∷ s) = true
 starts_coef _ = false
 
--- the plans of statements from their first token on
-abbrev pub check_plan : ℕ → (Statement → Plan) → Plan
-check_plan k K = fixed Check (next plan.expr (λ v. fixed Semicolon (K (check k v))))
+-- what is ahead of statements from their first token on
+abbrev pub check_ahead : ℕ → (Statement → Ahead) → Ahead
+check_ahead k K = fixed Check (next ahead.expr (λ v. fixed Semicolon (K (check k v))))
 
-abbrev pub out_plan : ℕ → (Statement → Plan) → Plan
-out_plan k K = fixed Out (next plan.expr (λ v. fixed Semicolon (K (out k v))))
+abbrev pub out_ahead : ℕ → (Statement → Ahead) → Ahead
+out_ahead k K = fixed Out (next ahead.expr (λ v. fixed Semicolon (K (out k v))))
 
-abbrev pub each_plan : ℕ → (Statement → Plan) → Plan
-each_plan k K = fixed Each (range (λ n from to. next plan.stmts (λ v. fixed Close (K (each k n from to (statements v))))))
+abbrev pub each_ahead : ℕ → (Statement → Ahead) → Ahead
+each_ahead k K = fixed Each (range (λ n from to. next ahead.stmts (λ v. fixed Close (K (each k n from to (statements v))))))
 
 -- how many levels of `psum` a kind opens
 abbrev pub psums : Kind → ℕ
@@ -179,18 +179,18 @@ abbrev pub TakesWord : List ℕ → ℕ → List Token → Bool → ℕ → List
 TakesWord word k s true k' s' = (s ≡ Name word ∷ s') × (k' ≡ suc k)
 TakesWord word k s false k' s' = is_word word s ≡ false
 
--- the plans of standard circuits behind their names
-abbrev pub sumvec_plan : (Params → Plan) → Plan
-sumvec_plan K = next (plan.setting (codes "length")) (λ l. next (plan.setting (codes "bits")) (λ b. next (plan.setting (codes "chunk")) (λ c. fixed Semicolon (K (params.SumVec l b c)))))
+-- what is ahead of standard circuits behind their names
+abbrev pub sumvec_ahead : (Params → Ahead) → Ahead
+sumvec_ahead K = next (ahead.setting (codes "length")) (λ l. next (ahead.setting (codes "bits")) (λ b. next (ahead.setting (codes "chunk")) (λ c. fixed Semicolon (K (params.SumVec l b c)))))
 
-abbrev pub histogram_plan : (Params → Plan) → Plan
-histogram_plan K = next (plan.setting (codes "length")) (λ l. next (plan.setting (codes "chunk")) (λ c. fixed Semicolon (K (params.Histogram l c))))
+abbrev pub histogram_ahead : (Params → Ahead) → Ahead
+histogram_ahead K = next (ahead.setting (codes "length")) (λ l. next (ahead.setting (codes "chunk")) (λ c. fixed Semicolon (K (params.Histogram l c))))
 
-abbrev pub multihot_plan : (Params → Plan) → Plan
-multihot_plan K = next (plan.setting (codes "length")) (λ l. next (plan.setting (codes "weight")) (λ w. next (plan.setting (codes "chunk")) (λ c. fixed Semicolon (K (params.Multihot l w c)))))
+abbrev pub multihot_ahead : (Params → Ahead) → Ahead
+multihot_ahead K = next (ahead.setting (codes "length")) (λ l. next (ahead.setting (codes "weight")) (λ w. next (ahead.setting (codes "chunk")) (λ c. fixed Semicolon (K (params.Multihot l w c)))))
 
-abbrev pub count_plan : (Params → Plan) → Plan
-count_plan K = fixed Semicolon (K params.Count)
+abbrev pub count_ahead : (Params → Ahead) → Ahead
+count_ahead K = fixed Semicolon (K params.Count)
 
-abbrev pub sum_circuit_plan : (Params → Plan) → Plan
-sum_circuit_plan K = next (plan.setting (codes "max")) (λ m. fixed Semicolon (K (params.Sum m)))
+abbrev pub sum_circuit_ahead : (Params → Ahead) → Ahead
+sum_circuit_ahead K = next (ahead.setting (codes "max")) (λ m. fixed Semicolon (K (params.Sum m)))

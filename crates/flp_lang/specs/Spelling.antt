@@ -40,11 +40,11 @@ spelling (Name n) = n
 spelling (Fixed m) = mark_text m
 
 -- further tokens, each behind a space, and LF at the end
-unfoldable pub spelled_on : List Token → List ℕ
-spelled_on [] = 10 ∷ []
-spelled_on (token ∷ more) = 32 ∷ (spelling token ++ spelled_on more)
+unfoldable pub rest_text : List Token → List ℕ
+rest_text [] = 10 ∷ []
+rest_text (token ∷ more) = 32 ∷ (spelling token ++ rest_text more)
 
 -- tokens with one space between two, and LF at the end
-abbrev pub spelled : List Token → List ℕ
-spelled [] = 10 ∷ []
-spelled (token ∷ more) = spelling token ++ spelled_on more
+abbrev pub tokens_text : List Token → List ℕ
+tokens_text [] = 10 ∷ []
+tokens_text (token ∷ more) = spelling token ++ rest_text more

@@ -21,18 +21,18 @@ Stops front [] = (text : Text) → IsText front text → ⊥
 Stops front (token ∷ rest) = Viable (front ++ token ∷ []) → ⊥
 
 -- the levels that are open: of parentheses and brackets, and of `psum`, which end with their declaration
-abbrev pub moved : Token → ℕ × ℕ → ℕ × ℕ
-moved (Fixed Open) open_levels = (suc open_levels.0, open_levels.1)
-moved (Fixed OpenBracket) open_levels = (suc open_levels.0, open_levels.1)
-moved (Fixed Close) open_levels = (open_levels.0 - 1, open_levels.1)
-moved (Fixed CloseBracket) open_levels = (open_levels.0 - 1, open_levels.1)
-moved (Fixed Psum) open_levels = (open_levels.0, suc open_levels.1)
-moved (Fixed Semicolon) open_levels = (open_levels.0, 0)
-moved _ open_levels = open_levels
+abbrev pub levels_behind : Token → ℕ × ℕ → ℕ × ℕ
+levels_behind (Fixed Open) open_levels = (suc open_levels.0, open_levels.1)
+levels_behind (Fixed OpenBracket) open_levels = (suc open_levels.0, open_levels.1)
+levels_behind (Fixed Close) open_levels = (open_levels.0 - 1, open_levels.1)
+levels_behind (Fixed CloseBracket) open_levels = (open_levels.0 - 1, open_levels.1)
+levels_behind (Fixed Psum) open_levels = (open_levels.0, suc open_levels.1)
+levels_behind (Fixed Semicolon) open_levels = (open_levels.0, 0)
+levels_behind _ open_levels = open_levels
 
 abbrev pub levels_after : ℕ × ℕ → List Token → ℕ × ℕ
 levels_after open_levels [] = open_levels
-levels_after open_levels (token ∷ more) = levels_after (moved token open_levels) more
+levels_after open_levels (token ∷ more) = levels_after (levels_behind token open_levels) more
 
 abbrev pub level_of : List Token → ℕ
 level_of tokens = (levels_after (0, 0) tokens).0 + (levels_after (0, 0) tokens).1
@@ -42,7 +42,7 @@ abbrev pub IsShallow : List Token → Type 0
 IsShallow tokens = (front rest : List Token) → tokens ≡ front ++ rest → level_of front ≤ 64
 
 -- the verdict on all the tokens
-abbrev pub Judged : List Token → Verdict → Type 0
-Judged tokens (good text) = IsText tokens text × IsShallow tokens
-Judged tokens (bad k) = (front rest : List Token) × (tokens ≡ front ++ rest) × (length front ≡ k) × Viable front × Stops front rest × IsShallow front
-Judged tokens (deep k) = (front : List Token) × (token : Token) × (rest : List Token) × (tokens ≡ front ++ token ∷ rest) × (length front ≡ k) × Viable (front ++ token ∷ []) × IsShallow front × (level_of (front ++ token ∷ []) ≡ 65)
+abbrev pub IsJudgedAs : List Token → Verdict → Type 0
+IsJudgedAs tokens (good text) = IsText tokens text × IsShallow tokens
+IsJudgedAs tokens (bad k) = (front rest : List Token) × (tokens ≡ front ++ rest) × (length front ≡ k) × Viable front × Stops front rest × IsShallow front
+IsJudgedAs tokens (deep k) = (front : List Token) × (token : Token) × (rest : List Token) × (tokens ≡ front ++ token ∷ rest) × (length front ≡ k) × Viable (front ++ token ∷ []) × IsShallow front × (level_of (front ++ token ∷ []) ≡ 65)

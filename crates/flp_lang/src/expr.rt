@@ -1,34 +1,15 @@
 //! The rules of expressions.
 ghost use Rattle.std.specs.Prelude.{◌≡◌, ◌≤◌, ◌<◌, ℕ, List, Bool, Option, Some, None, length, map, IfOk, ◌∷◌};
-ghost use Rattle.flp_syntax.specs.Tree.{Index, Tree, Argument, number, tree_at, sum_of, product_of, power_of};
+ghost use Rattle.flp_syntax.specs.Tree.{Index, Tree, Argument, number, sum_of, product_of, power_of};
 ghost use Rattle.flp_syntax.specs.View.{index_of, tree_of, item_of, arg_of};
-ghost use Rattle.flp_lang.specs.Plan as plan;
-ghost use Rattle.flp_lang.specs.Plan.{Plan, next, fixed};
-ghost use Rattle.flp_lang.specs.Run.{Runs, joint_plan, meas_plan, sum_plan, named_plan};
+ghost use Rattle.flp_lang.specs.Ahead as ahead;
+ghost use Rattle.flp_lang.specs.Ahead.{Ahead, next, fixed};
+ghost use Rattle.flp_lang.specs.Run.{Runs, joint_ahead, meas_ahead, sum_ahead, named_ahead};
 
 use crate::parser::{Parser, Start};
 use flp_list::List;
-use flp_syntax::{Arg, Expr, Idx, Item, LangFault, Mark};
+use flp_syntax::{Arg, Expr, Idx, Item, LangFault, Mark, tree_at};
 use std::alloc::{AllocError, Global};
-
-/// The number of the token that begins an expression.
-#[tactic(auto, using(flp_syntax::specs::View::view_equations))]
-fn tree_at(expr: &Expr) -> u32
-    ensures { result ≡ tree_at (tree_of expr.now) }
-{
-    match expr {
-        Expr::Number { at, .. } => *at,
-        Expr::Var { at, .. } => *at,
-        Expr::Joint { at, .. } => *at,
-        Expr::Meas { at, .. } => *at,
-        Expr::MeasOrZero { at, .. } => *at,
-        Expr::Sum { at, .. } => *at,
-        Expr::Call { at, .. } => *at,
-        Expr::Add { at, .. } => *at,
-        Expr::Mul { at, .. } => *at,
-        Expr::Pow { at, .. } => *at,
-    }
-}
 
 /// The sum of a first expression, with its sign, and more; a lone one without minus is itself.
 fn sum_of(minus: bool, first: Expr, mut more: Vec<Item>) -> Result<Expr, AllocError>
@@ -76,7 +57,7 @@ impl Parser<'_> {
     #[cycle(expr)]
     pub fn expr(&mut self, level: u32) -> Result<Expr, LangFault>
         requires { level ≤ 64 }
-        ensures runs { (K : Tree → Plan) → Runs (level, 0) self.old.at (next plan.expr K) self.old.rest.now result (λ _. (level, 0)) self.new.at (λ v. K (tree_of v)) self.new.rest.now }
+        ensures runs { (K : Tree → Ahead) → Runs (level, 0) self.old.at (next ahead.expr K) self.old.rest.now result (λ _. (level, 0)) self.new.at (λ v. K (tree_of v)) self.new.rest.now }
         ensures left { IfOk result (λ _. length self.new.rest.now < length self.old.rest.now) }
     {
         let minus = self.eat(Mark::Minus);
@@ -89,7 +70,7 @@ impl Parser<'_> {
     #[cycle(expr)]
     fn more_terms(&mut self, level: u32) -> Result<Vec<Item>, LangFault>
         requires { level ≤ 64 }
-        ensures runs { (K : List (Bool × Tree) → Plan) → Runs (level, 0) self.old.at (next plan.terms K) self.old.rest.now result (λ _. (level, 0)) self.new.at (λ v. K (map item_of v.items)) self.new.rest.now }
+        ensures runs { (K : List (Bool × Tree) → Ahead) → Runs (level, 0) self.old.at (next ahead.terms K) self.old.rest.now result (λ _. (level, 0)) self.new.at (λ v. K (map item_of v.items)) self.new.rest.now }
         ensures left { IfOk result (λ _. length self.new.rest.now ≤ length self.old.rest.now) }
     {
         let mut items = Vec::new(self.alloc);
@@ -109,7 +90,7 @@ impl Parser<'_> {
     #[cycle(expr)]
     fn term(&mut self, level: u32) -> Result<Expr, LangFault>
         requires { level ≤ 64 }
-        ensures runs { (K : Tree → Plan) → Runs (level, 0) self.old.at (next plan.term K) self.old.rest.now result (λ _. (level, 0)) self.new.at (λ v. K (tree_of v)) self.new.rest.now }
+        ensures runs { (K : Tree → Ahead) → Runs (level, 0) self.old.at (next ahead.term K) self.old.rest.now result (λ _. (level, 0)) self.new.at (λ v. K (tree_of v)) self.new.rest.now }
         ensures left { IfOk result (λ _. length self.new.rest.now < length self.old.rest.now) }
     {
         let first = self.factor(level)?;
@@ -121,7 +102,7 @@ impl Parser<'_> {
     #[cycle(expr)]
     fn more_factors(&mut self, level: u32) -> Result<Vec<Expr>, LangFault>
         requires { level ≤ 64 }
-        ensures runs { (K : List Tree → Plan) → Runs (level, 0) self.old.at (next plan.factors K) self.old.rest.now result (λ _. (level, 0)) self.new.at (λ v. K (map tree_of v.items)) self.new.rest.now }
+        ensures runs { (K : List Tree → Ahead) → Runs (level, 0) self.old.at (next ahead.factors K) self.old.rest.now result (λ _. (level, 0)) self.new.at (λ v. K (map tree_of v.items)) self.new.rest.now }
         ensures left { IfOk result (λ _. length self.new.rest.now ≤ length self.old.rest.now) }
     {
         let mut factors = Vec::new(self.alloc);
@@ -136,7 +117,7 @@ impl Parser<'_> {
     #[cycle(expr)]
     fn factor(&mut self, level: u32) -> Result<Expr, LangFault>
         requires { level ≤ 64 }
-        ensures runs { (K : Tree → Plan) → Runs (level, 0) self.old.at (next plan.factor K) self.old.rest.now result (λ _. (level, 0)) self.new.at (λ v. K (tree_of v)) self.new.rest.now }
+        ensures runs { (K : Tree → Ahead) → Runs (level, 0) self.old.at (next ahead.factor K) self.old.rest.now result (λ _. (level, 0)) self.new.at (λ v. K (tree_of v)) self.new.rest.now }
         ensures left { IfOk result (λ _. length self.new.rest.now < length self.old.rest.now) }
     {
         let base = self.prim(level)?;
@@ -151,7 +132,7 @@ impl Parser<'_> {
     #[cycle(expr)]
     fn prim(&mut self, level: u32) -> Result<Expr, LangFault>
         requires { level ≤ 64 }
-        ensures runs { (K : Tree → Plan) → Runs (level, 0) self.old.at (next plan.prim K) self.old.rest.now result (λ _. (level, 0)) self.new.at (λ v. K (tree_of v)) self.new.rest.now }
+        ensures runs { (K : Tree → Ahead) → Runs (level, 0) self.old.at (next ahead.prim K) self.old.rest.now result (λ _. (level, 0)) self.new.at (λ v. K (tree_of v)) self.new.rest.now }
         ensures left { IfOk result (λ _. length self.new.rest.now < length self.old.rest.now) }
     {
         match self.start() {
@@ -172,7 +153,7 @@ impl Parser<'_> {
 
     /// `NUMBER`
     fn number_expr(&mut self, level: u32) -> Result<Expr, LangFault>
-        ensures runs { (K : Tree → Plan) → Runs (level, 0) self.old.at (next plan.a_numeral (λ n. K (number self.old.at n))) self.old.rest.now result (λ _. (level, 0)) self.new.at (λ v. K (tree_of v)) self.new.rest.now }
+        ensures runs { (K : Tree → Ahead) → Runs (level, 0) self.old.at (next ahead.a_numeral (λ n. K (number self.old.at n))) self.old.rest.now result (λ _. (level, 0)) self.new.at (λ v. K (tree_of v)) self.new.rest.now }
         ensures left { IfOk result (λ _. length self.new.rest.now < length self.old.rest.now) }
     {
         let at = self.at;
@@ -183,7 +164,7 @@ impl Parser<'_> {
     /// `"joint" "[" idx "]"`
     fn joint(&mut self, level: u32) -> Result<Expr, LangFault>
         requires { level ≤ 64 }
-        ensures runs { (K : Tree → Plan) → Runs (level, 0) self.old.at (joint_plan self.old.at K) self.old.rest.now result (λ _. (level, 0)) self.new.at (λ v. K (tree_of v)) self.new.rest.now }
+        ensures runs { (K : Tree → Ahead) → Runs (level, 0) self.old.at (joint_ahead self.old.at K) self.old.rest.now result (λ _. (level, 0)) self.new.at (λ v. K (tree_of v)) self.new.rest.now }
         ensures left { IfOk result (λ _. length self.new.rest.now < length self.old.rest.now) }
     {
         let at = self.at;
@@ -195,7 +176,7 @@ impl Parser<'_> {
     /// `"meas" "[" idx "]" | "meas" "?" "[" idx "]"`
     fn meas(&mut self, level: u32) -> Result<Expr, LangFault>
         requires { level ≤ 64 }
-        ensures runs { (K : Tree → Plan) → Runs (level, 0) self.old.at (meas_plan self.old.at K) self.old.rest.now result (λ _. (level, 0)) self.new.at (λ v. K (tree_of v)) self.new.rest.now }
+        ensures runs { (K : Tree → Ahead) → Runs (level, 0) self.old.at (meas_ahead self.old.at K) self.old.rest.now result (λ _. (level, 0)) self.new.at (λ v. K (tree_of v)) self.new.rest.now }
         ensures left { IfOk result (λ _. length self.new.rest.now < length self.old.rest.now) }
     {
         let at = self.at;
@@ -212,7 +193,7 @@ impl Parser<'_> {
     #[cycle(expr)]
     fn sum(&mut self, level: u32) -> Result<Expr, LangFault>
         requires { level ≤ 64 }
-        ensures runs { (K : Tree → Plan) → Runs (level, 0) self.old.at (sum_plan self.old.at K) self.old.rest.now result (λ _. (level, 0)) self.new.at (λ v. K (tree_of v)) self.new.rest.now }
+        ensures runs { (K : Tree → Ahead) → Runs (level, 0) self.old.at (sum_ahead self.old.at K) self.old.rest.now result (λ _. (level, 0)) self.new.at (λ v. K (tree_of v)) self.new.rest.now }
         ensures left { IfOk result (λ _. length self.new.rest.now < length self.old.rest.now) }
     {
         let at = self.at;
@@ -234,7 +215,7 @@ impl Parser<'_> {
     #[cycle(expr)]
     fn named(&mut self, level: u32) -> Result<Expr, LangFault>
         requires { level ≤ 64 }
-        ensures runs { (K : Tree → Plan) → Runs (level, 0) self.old.at (named_plan self.old.at K) self.old.rest.now result (λ _. (level, 0)) self.new.at (λ v. K (tree_of v)) self.new.rest.now }
+        ensures runs { (K : Tree → Ahead) → Runs (level, 0) self.old.at (named_ahead self.old.at K) self.old.rest.now result (λ _. (level, 0)) self.new.at (λ v. K (tree_of v)) self.new.rest.now }
         ensures left { IfOk result (λ _. length self.new.rest.now < length self.old.rest.now) }
     {
         let at = self.at;
@@ -256,7 +237,7 @@ impl Parser<'_> {
     #[cycle(expr)]
     fn args(&mut self, level: u32) -> Result<Vec<Arg>, LangFault>
         requires { level ≤ 64 }
-        ensures runs { (K : List Argument → Plan) → Runs (level, 0) self.old.at (next plan.args K) self.old.rest.now result (λ _. (level, 0)) self.new.at (λ v. K (map arg_of v.items)) self.new.rest.now }
+        ensures runs { (K : List Argument → Ahead) → Runs (level, 0) self.old.at (next ahead.args K) self.old.rest.now result (λ _. (level, 0)) self.new.at (λ v. K (map arg_of v.items)) self.new.rest.now }
         ensures left { IfOk result (λ _. length self.new.rest.now < length self.old.rest.now) }
     {
         let first = self.arg(level)?;
@@ -273,7 +254,7 @@ impl Parser<'_> {
     #[cycle(expr)]
     fn arg(&mut self, level: u32) -> Result<Arg, LangFault>
         requires { level ≤ 64 }
-        ensures runs { (K : Argument → Plan) → Runs (level, 0) self.old.at (next plan.arg K) self.old.rest.now result (λ _. (level, 0)) self.new.at (λ v. K (arg_of v)) self.new.rest.now }
+        ensures runs { (K : Argument → Ahead) → Runs (level, 0) self.old.at (next ahead.arg K) self.old.rest.now result (λ _. (level, 0)) self.new.at (λ v. K (arg_of v)) self.new.rest.now }
         ensures left { IfOk result (λ _. length self.new.rest.now < length self.old.rest.now) }
     {
         if !self.is_next(Mark::Each) {

@@ -1,28 +1,15 @@
 //! The rules of indices.
 ghost use Rattle.std.specs.Prelude.{◌≡◌, ◌≤◌, ◌<◌, ℕ, List, Bool, length, map, IfOk};
-ghost use Rattle.flp_syntax.specs.Tree.{Index, index_sum, index_product, index_at};
+ghost use Rattle.flp_syntax.specs.Tree.{Index, index_sum, index_product};
 ghost use Rattle.flp_syntax.specs.View.{index_of, index_item_of};
-ghost use Rattle.flp_lang.specs.Plan as plan;
-ghost use Rattle.flp_lang.specs.Plan.{Plan, next};
+ghost use Rattle.flp_lang.specs.Ahead as ahead;
+ghost use Rattle.flp_lang.specs.Ahead.{Ahead, next};
 ghost use Rattle.flp_lang.specs.Run.{Runs};
 
 use crate::parser::Parser;
 use flp_list::List;
-use flp_syntax::{Idx, IdxItem, LangFault, Mark};
+use flp_syntax::{Idx, IdxItem, LangFault, Mark, index_at};
 use std::alloc::AllocError;
-
-/// The number of the token that begins an index.
-#[tactic(auto, using(flp_syntax::specs::View::view_equations))]
-fn index_at(index: &Idx) -> u32
-    ensures { result ≡ index_at (index_of index.now) }
-{
-    match index {
-        Idx::Number { at, .. } => *at,
-        Idx::Var { at, .. } => *at,
-        Idx::Add { at, .. } => *at,
-        Idx::Mul { at, .. } => *at,
-    }
-}
 
 /// The sum of a first index and more; where there are no more, the first.
 #[tactic(auto, using(flp_syntax::specs::View::view_equations))]
@@ -67,7 +54,7 @@ impl Parser<'_> {
     #[cycle(index)]
     pub fn index(&mut self, level: u32) -> Result<Idx, LangFault>
         requires { level ≤ 64 }
-        ensures runs { (K : Index → Plan) → Runs (level, 0) self.old.at (next plan.index K) self.old.rest.now result (λ _. (level, 0)) self.new.at (λ v. K (index_of v)) self.new.rest.now }
+        ensures runs { (K : Index → Ahead) → Runs (level, 0) self.old.at (next ahead.index K) self.old.rest.now result (λ _. (level, 0)) self.new.at (λ v. K (index_of v)) self.new.rest.now }
         ensures left { IfOk result (λ _. length self.new.rest.now < length self.old.rest.now) }
     {
         let first = self.index_term(level)?;
@@ -79,7 +66,7 @@ impl Parser<'_> {
     #[cycle(index)]
     fn more_index_terms(&mut self, level: u32) -> Result<Vec<IdxItem>, LangFault>
         requires { level ≤ 64 }
-        ensures runs { (K : List (Bool × Index) → Plan) → Runs (level, 0) self.old.at (next plan.index_terms K) self.old.rest.now result (λ _. (level, 0)) self.new.at (λ v. K (map index_item_of v.items)) self.new.rest.now }
+        ensures runs { (K : List (Bool × Index) → Ahead) → Runs (level, 0) self.old.at (next ahead.index_terms K) self.old.rest.now result (λ _. (level, 0)) self.new.at (λ v. K (map index_item_of v.items)) self.new.rest.now }
         ensures left { IfOk result (λ _. length self.new.rest.now ≤ length self.old.rest.now) }
     {
         let mut items = Vec::new(self.alloc);
@@ -99,7 +86,7 @@ impl Parser<'_> {
     #[cycle(index)]
     fn index_term(&mut self, level: u32) -> Result<Idx, LangFault>
         requires { level ≤ 64 }
-        ensures runs { (K : Index → Plan) → Runs (level, 0) self.old.at (next plan.index_term K) self.old.rest.now result (λ _. (level, 0)) self.new.at (λ v. K (index_of v)) self.new.rest.now }
+        ensures runs { (K : Index → Ahead) → Runs (level, 0) self.old.at (next ahead.index_term K) self.old.rest.now result (λ _. (level, 0)) self.new.at (λ v. K (index_of v)) self.new.rest.now }
         ensures left { IfOk result (λ _. length self.new.rest.now < length self.old.rest.now) }
     {
         let first = self.index_prim(level)?;
@@ -111,7 +98,7 @@ impl Parser<'_> {
     #[cycle(index)]
     fn more_index_factors(&mut self, level: u32) -> Result<Vec<Idx>, LangFault>
         requires { level ≤ 64 }
-        ensures runs { (K : List Index → Plan) → Runs (level, 0) self.old.at (next plan.index_factors K) self.old.rest.now result (λ _. (level, 0)) self.new.at (λ v. K (map index_of v.items)) self.new.rest.now }
+        ensures runs { (K : List Index → Ahead) → Runs (level, 0) self.old.at (next ahead.index_factors K) self.old.rest.now result (λ _. (level, 0)) self.new.at (λ v. K (map index_of v.items)) self.new.rest.now }
         ensures left { IfOk result (λ _. length self.new.rest.now ≤ length self.old.rest.now) }
     {
         let mut factors = Vec::new(self.alloc);
@@ -127,7 +114,7 @@ impl Parser<'_> {
     #[tactic(auto, using(flp_syntax::specs::View::view_equations))]
     pub fn index_prim(&mut self, level: u32) -> Result<Idx, LangFault>
         requires { level ≤ 64 }
-        ensures runs { (K : Index → Plan) → Runs (level, 0) self.old.at (next plan.index_prim K) self.old.rest.now result (λ _. (level, 0)) self.new.at (λ v. K (index_of v)) self.new.rest.now }
+        ensures runs { (K : Index → Ahead) → Runs (level, 0) self.old.at (next ahead.index_prim K) self.old.rest.now result (λ _. (level, 0)) self.new.at (λ v. K (index_of v)) self.new.rest.now }
         ensures left { IfOk result (λ _. length self.new.rest.now < length self.old.rest.now) }
     {
         let at = self.at;

@@ -1,10 +1,10 @@
 //! The tokens of a text as the parser goes down through them once.
 ghost use Rattle.std.specs.Prelude.{◌≡◌, ◌+◌, ◌^◌, ◌<◌, ◌≤◌, ℕ, List, suc, false, length, IfOk, ◌∷◌};
-ghost use Rattle.flp_lang.specs.Plan.{Plan, next, a_mark, a_numeral, a_naming, setting, fixed, range};
-ghost use Rattle.flp_lang.specs.Plan as plan;
+ghost use Rattle.flp_lang.specs.Ahead.{Ahead, next, a_mark, a_numeral, a_naming, setting, fixed, range};
+ghost use Rattle.flp_lang.specs.Ahead as ahead;
 ghost use Rattle.flp_syntax.specs.Tree.{Index};
 ghost use Rattle.flp_syntax.specs.View.{index_of};
-ghost use Rattle.flp_lang.specs.Verdict.{moved};
+ghost use Rattle.flp_lang.specs.Verdict.{levels_behind};
 ghost use Rattle.flp_lang.specs.Run.{Runs, Eats, TakesSign, TakesNumber, TakesName, too_deep, is_next, start_of, starts_stmt, starts_coef, Skips, is_word, TakesWord};
 ghost use Rattle.flp_syntax.specs.declared.token.Token.TheVariants.{Fixed};
 ghost use Rattle.flp_syntax.specs.declared.token.Mark.TheVariants.{Open, OpenBracket, CloseBracket};
@@ -133,8 +133,8 @@ impl<'a> Parser<'a> {
 
     /// Takes the mark, which has to be next.
     pub fn expect(&mut self, mark: Mark) -> Result<(), LangFault>
-        ensures runs { (l : ℕ × ℕ) (P : Plan) → too_deep (Fixed mark) l ≡ false
-            → Runs l self.old.at (fixed mark P) self.old.rest.now result (λ _. moved (Fixed mark) l) self.new.at (λ _. P) self.new.rest.now }
+        ensures runs { (l : ℕ × ℕ) (P : Ahead) → too_deep (Fixed mark) l ≡ false
+            → Runs l self.old.at (fixed mark P) self.old.rest.now result (λ _. levels_behind (Fixed mark) l) self.new.at (λ _. P) self.new.rest.now }
         ensures left { IfOk result (λ _. length self.new.rest.now < length self.old.rest.now) }
     {
         let at = self.at;
@@ -147,7 +147,7 @@ impl<'a> Parser<'a> {
     /// Takes the `(`, which has to be next, and answers the level within.
     pub fn open(&mut self, level: u32) -> Result<u32, LangFault>
         requires { level ≤ 64 }
-        ensures runs { (P : Plan) → Runs (level, 0) self.old.at (fixed Open P) self.old.rest.now result (λ inner. (inner, 0)) self.new.at (λ _. P) self.new.rest.now }
+        ensures runs { (P : Ahead) → Runs (level, 0) self.old.at (fixed Open P) self.old.rest.now result (λ inner. (inner, 0)) self.new.at (λ _. P) self.new.rest.now }
         ensures inner { IfOk result (λ inner. (inner ≡ suc level) × (inner ≤ 64)) }
         ensures left { IfOk result (λ _. length self.new.rest.now < length self.old.rest.now) }
     {
@@ -164,7 +164,7 @@ impl<'a> Parser<'a> {
     /// Takes the `[`, which has to be next, and answers the level within.
     pub fn open_bracket(&mut self, level: u32) -> Result<u32, LangFault>
         requires { level ≤ 64 }
-        ensures runs { (P : Plan) → Runs (level, 0) self.old.at (fixed OpenBracket P) self.old.rest.now result (λ inner. (inner, 0)) self.new.at (λ _. P) self.new.rest.now }
+        ensures runs { (P : Ahead) → Runs (level, 0) self.old.at (fixed OpenBracket P) self.old.rest.now result (λ inner. (inner, 0)) self.new.at (λ _. P) self.new.rest.now }
         ensures inner { IfOk result (λ inner. (inner ≡ suc level) × (inner ≤ 64)) }
         ensures left { IfOk result (λ _. length self.new.rest.now < length self.old.rest.now) }
     {
@@ -180,7 +180,7 @@ impl<'a> Parser<'a> {
 
     /// Takes a number, which has to be next.
     pub fn expect_number(&mut self) -> Result<Fe, LangFault>
-        ensures runs { (l : ℕ × ℕ) (K : ℕ → Plan) → Runs l self.old.at (next a_numeral K) self.old.rest.now result (λ _. l) self.new.at K self.new.rest.now }
+        ensures runs { (l : ℕ × ℕ) (K : ℕ → Ahead) → Runs l self.old.at (next a_numeral K) self.old.rest.now result (λ _. l) self.new.at K self.new.rest.now }
         ensures left { IfOk result (λ _. length self.new.rest.now < length self.old.rest.now) }
     {
         let at = self.at;
@@ -192,7 +192,7 @@ impl<'a> Parser<'a> {
 
     /// Takes a name, which has to be next.
     pub fn expect_name(&mut self) -> Result<Bytes, LangFault>
-        ensures runs { (l : ℕ × ℕ) (K : List ℕ → Plan) → Runs l self.old.at (next a_naming K) self.old.rest.now result (λ _. l) self.new.at K self.new.rest.now }
+        ensures runs { (l : ℕ × ℕ) (K : List ℕ → Ahead) → Runs l self.old.at (next a_naming K) self.old.rest.now result (λ _. l) self.new.at K self.new.rest.now }
         ensures left { IfOk result (λ _. length self.new.rest.now < length self.old.rest.now) }
     {
         let at = self.at;
@@ -231,7 +231,7 @@ impl<'a> Parser<'a> {
     /// `NAME "in" idx ".." idx "("`
     pub fn range(&mut self, level: u32) -> Result<Range, LangFault>
         requires { level ≤ 64 }
-        ensures runs { (K : List ℕ → Index → Index → Plan) → Runs (level, 0) self.old.at (range K) self.old.rest.now result (λ r. (r.inner, 0)) self.new.at (λ r. K r.name (index_of r.from) (index_of r.to)) self.new.rest.now }
+        ensures runs { (K : List ℕ → Index → Index → Ahead) → Runs (level, 0) self.old.at (range K) self.old.rest.now result (λ r. (r.inner, 0)) self.new.at (λ r. K r.name (index_of r.from) (index_of r.to)) self.new.rest.now }
         ensures inner { IfOk result (λ r. (r.inner ≡ suc level) × (r.inner ≤ 64)) }
         ensures left { IfOk result (λ _. length self.new.rest.now < length self.old.rest.now) }
     {
@@ -252,7 +252,7 @@ impl<'a> Parser<'a> {
     /// `"[" idx "]"`
     pub fn bracketed(&mut self, level: u32) -> Result<Idx, LangFault>
         requires { level ≤ 64 }
-        ensures runs { (K : Index → Plan) → Runs (level, 0) self.old.at (fixed OpenBracket (next plan.index (λ v. fixed CloseBracket (K v)))) self.old.rest.now result (λ _. (level, 0)) self.new.at (λ v. K (index_of v)) self.new.rest.now }
+        ensures runs { (K : Index → Ahead) → Runs (level, 0) self.old.at (fixed OpenBracket (next ahead.index (λ v. fixed CloseBracket (K v)))) self.old.rest.now result (λ _. (level, 0)) self.new.at (λ v. K (index_of v)) self.new.rest.now }
         ensures left { IfOk result (λ _. length self.new.rest.now < length self.old.rest.now) }
     {
         let inner = self.open_bracket(level)?;

@@ -4,7 +4,7 @@ ghost use Rattle.flp_syntax.specs.View.{kind_of, declaration_of, program_of, tex
 ghost use Rattle.flp_lang.specs.Print.{put_coef, put_coefs, put_kind, put_decl, put_decls, put_setting, put_params, put_words, put_body, put_text, printed_tokens};
 ghost use Rattle.flp_lang.specs.Parsed.{IsParsed};
 ghost use Rattle.flp_lang.specs.ReadBack.{IsReadBack};
-ghost use Rattle.flp_lang.specs.Spelling.{spelled};
+ghost use Rattle.flp_lang.specs.Spelling.{tokens_text};
 ghost use Rattle.flp_lang.specs.Written.{Wrote, WroteAll};
 
 use crate::Memory;
@@ -166,106 +166,10 @@ impl Printer {
 /// Where a text was parsed to the circuit and the printed text has at most 65,536 bytes, it is parsed to the same circuit
 /// but for the token numbers. There is no error but want of memory.
 pub fn print(alloc: Global, circuit: &Circuit) -> Result<Vec<u8>, Memory>
-    ensures text { IfOk result (λ text. text.items ≡ spelled (printed_tokens (text_of circuit.now))) }
+    ensures text { IfOk result (λ text. text.items ≡ tokens_text (printed_tokens (text_of circuit.now))) }
     ensures read_back { IfOk result (λ text. (source : List ℕ) → IsParsed source (text_of circuit.now) → length text.items ≤ 65536 → IsReadBack (text_of circuit.now) text.items) }
 {
     let mut printer = Printer::circuit(alloc, circuit)?;
     printer.text.push(b'\n')?;
     Ok(printer.text)
-}
-
-#[cfg(test)]
-mod tests {
-    use super::*;
-    use crate::text::parse;
-    use std::test::Fail;
-
-    /// The text that the circuit of a text is printed as.
-    fn printed(alloc: Global, text: &str) -> Result<String, Fail> {
-        let circuit = parse(alloc, text.as_bytes())?;
-        let bytes = print(alloc, &circuit)?;
-        Ok(String::from_utf8(bytes)?)
-    }
-
-    #[test]
-    fn prints_standard_circuits(rt: HostRuntime) -> Result<(), Fail> {
-        let table = [
-            ("use count;", "use count ;\n"),
-            ("use  sum max=007; # seven", "use sum max = 7 ;\n"),
-            (
-                "use sumvec length=3 bits=4 chunk=2;",
-                "use sumvec length = 3 bits = 4 chunk = 2 ;\n",
-            ),
-            (
-                "use histogram length=4\tchunk=2 ;",
-                "use histogram length = 4 chunk = 2 ;\n",
-            ),
-            (
-                "use multihot length=4 weight=2 chunk=3;",
-                "use multihot length = 4 weight = 2 chunk = 3 ;\n",
-            ),
-        ];
-        for (text, wanted) in table.iter() {
-            let text = printed(rt.alloc(), text)?;
-            assert_eq!(rt; text.as_str(), *wanted);
-        }
-        Ok(())
-    }
-
-    /// Which parentheses stay, and which go.
-    #[test]
-    fn prints_parentheses(rt: HostRuntime) -> Result<(), Fail> {
-        let table = [
-            ("(a)", "a"),
-            ("(a+b)*c", "( a + b ) * c"),
-            ("(a*b)+c", "a * b + c"),
-            ("(a+b)+c", "( a + b ) + c"),
-            ("a-(b-c)", "a - ( b - c )"),
-            ("-a+b", "- a + b"),
-            ("(-a)*b", "( - a ) * b"),
-            ("-(a*b)", "- a * b"),
-            ("-(a+b)", "- ( a + b )"),
-            ("a*(b*c)", "a * ( b * c )"),
-            ("(a*b)^2", "( a * b ) ^ 2"),
-            ("(a^2)^(3)", "( a ^ 2 ) ^ 3"),
-            ("(a^2)*b", "a ^ 2 * b"),
-            ("a^(2+i)", "a ^ ( 2 + i )"),
-            ("a^(2*i)", "a ^ ( 2 * i )"),
-            ("g((a+b),(a))", "g ( a + b , a )"),
-            ("meas[(i+1)]", "meas [ i + 1 ]"),
-            ("meas[(i+1)*2]", "meas [ ( i + 1 ) * 2 ]"),
-            ("joint[(i*2)-1]", "joint [ i * 2 - 1 ]"),
-            ("meas?[i-(j*(k*2))]", "meas ? [ i - j * ( k * 2 ) ]"),
-            ("sum i in (0)..(2)((a))", "sum i in 0 .. 2 ( a )"),
-        ];
-        for (text, wanted) in table.iter() {
-            let text = format!(in rt.alloc(); "meas 1; joint 0; gadget g = mul; out {text};")?;
-            let text = printed(rt.alloc(), &text)?;
-            let wanted = format!(in rt.alloc();
-                "meas 1 ; joint 0 ; gadget g = mul ; out {wanted} ;\n"
-            )?;
-            assert_eq!(rt; text, wanted);
-        }
-        Ok(())
-    }
-
-    /// Every rule of the grammar once: the tokens are those of the text, so the circuit is the same with its numbers.
-    #[test]
-    fn prints_each_rule(rt: HostRuntime) -> Result<(), Fail> {
-        let text =
-            "meas 4; joint 2; gadget g = mul; gadget h = poly 1 -2 3; gadget k = psum 2 psum 3 mul;
-            check -g(meas[0], joint[1]) + 2 * h(meas?[i * 2 + (1 - 0)]) ^ 2 - (1 + x) * y ^ (i + 1);
-            each i in 0 .. 4 ( check sum j in i .. i + 1 ( k(each m in 0 .. 6 ( meas[m], j ), each n in 1 .. 2 ( 3 )) ); )
-            out meas[3];";
-        let wanted =
-            "meas 4 ; joint 2 ; gadget g = mul ; gadget h = poly 1 - 2 3 ; gadget k = psum 2 psum 3 mul ; \
-            check - g ( meas [ 0 ] , joint [ 1 ] ) + 2 * h ( meas ? [ i * 2 + ( 1 - 0 ) ] ) ^ 2 - ( 1 + x ) * y ^ ( i + 1 ) ; \
-            each i in 0 .. 4 ( check sum j in i .. i + 1 ( k ( each m in 0 .. 6 ( meas [ m ] , j ) , each n in 1 .. 2 ( 3 ) ) ) ; ) \
-            out meas [ 3 ] ;\n";
-        let circuit = parse(rt.alloc(), text.as_bytes())?;
-        let bytes = print(rt.alloc(), &circuit)?;
-        assert_eq!(rt; bytes.as_slice(), wanted.as_bytes());
-        assert_eq!(rt; parse(rt.alloc(), &bytes)?, circuit);
-        Ok(())
-    }
 }

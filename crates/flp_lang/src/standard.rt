@@ -1,8 +1,8 @@
 //! The rules of standard circuits.
 ghost use Rattle.std.specs.Prelude.{◌≡◌, ℕ, List};
-ghost use Rattle.flp_lang.specs.Plan as plan;
-ghost use Rattle.flp_lang.specs.Plan.{Plan, next, fixed, setting};
-ghost use Rattle.flp_lang.specs.Run.{Runs, which_of, which_starts, count_plan, sum_circuit_plan, sumvec_plan, histogram_plan, multihot_plan};
+ghost use Rattle.flp_lang.specs.Ahead as ahead;
+ghost use Rattle.flp_lang.specs.Ahead.{Ahead, next, fixed, setting};
+ghost use Rattle.flp_lang.specs.Run.{Runs, which_of, which_starts, count_ahead, sum_circuit_ahead, sumvec_ahead, histogram_ahead, multihot_ahead};
 ghost use Rattle.flp_syntax.specs.declared.syntax.Params.{Params};
 
 use crate::parser::Parser;
@@ -50,7 +50,7 @@ impl Parser<'_> {
 
     /// `NAME "=" NUMBER`, at this name
     fn setting(&mut self, name: &[u8]) -> Result<u64, LangFault>
-        ensures { (K : ℕ → Plan) → Runs (0, 0) self.old.at (next (setting name.now) K) self.old.rest.now result (λ _. (0, 0)) self.new.at K self.new.rest.now }
+        ensures { (K : ℕ → Ahead) → Runs (0, 0) self.old.at (next (setting name.now) K) self.old.rest.now result (λ _. (0, 0)) self.new.at K self.new.rest.now }
     {
         let at = self.at;
         if !self.word(name) {
@@ -63,7 +63,7 @@ impl Parser<'_> {
 
     /// A standard circuit, behind its `use`
     pub fn standard(&mut self) -> Result<Params, LangFault>
-        ensures { (K : Params → Plan) → Runs (0, 0) self.old.at (next plan.standard_tail K) self.old.rest.now result (λ _. (0, 0)) self.new.at K self.new.rest.now }
+        ensures { (K : Params → Ahead) → Runs (0, 0) self.old.at (next ahead.standard_tail K) self.old.rest.now result (λ _. (0, 0)) self.new.at K self.new.rest.now }
     {
         let at = self.at;
         let which = self.which();
@@ -79,14 +79,14 @@ impl Parser<'_> {
     }
 
     fn count(&mut self) -> Result<Params, LangFault>
-        ensures { (K : Params → Plan) → Runs (0, 0) self.old.at (count_plan K) self.old.rest.now result (λ _. (0, 0)) self.new.at K self.new.rest.now }
+        ensures { (K : Params → Ahead) → Runs (0, 0) self.old.at (count_ahead K) self.old.rest.now result (λ _. (0, 0)) self.new.at K self.new.rest.now }
     {
         self.expect(Mark::Semicolon)?;
         Ok(Params::Count)
     }
 
     fn sum_circuit(&mut self) -> Result<Params, LangFault>
-        ensures { (K : Params → Plan) → Runs (0, 0) self.old.at (sum_circuit_plan K) self.old.rest.now result (λ _. (0, 0)) self.new.at K self.new.rest.now }
+        ensures { (K : Params → Ahead) → Runs (0, 0) self.old.at (sum_circuit_ahead K) self.old.rest.now result (λ _. (0, 0)) self.new.at K self.new.rest.now }
     {
         let max = self.setting(b"max")?;
         self.expect(Mark::Semicolon)?;
@@ -94,7 +94,7 @@ impl Parser<'_> {
     }
 
     fn sumvec(&mut self) -> Result<Params, LangFault>
-        ensures { (K : Params → Plan) → Runs (0, 0) self.old.at (sumvec_plan K) self.old.rest.now result (λ _. (0, 0)) self.new.at K self.new.rest.now }
+        ensures { (K : Params → Ahead) → Runs (0, 0) self.old.at (sumvec_ahead K) self.old.rest.now result (λ _. (0, 0)) self.new.at K self.new.rest.now }
     {
         let length = self.setting(b"length")?;
         let bits = self.setting(b"bits")?;
@@ -108,7 +108,7 @@ impl Parser<'_> {
     }
 
     fn histogram(&mut self) -> Result<Params, LangFault>
-        ensures { (K : Params → Plan) → Runs (0, 0) self.old.at (histogram_plan K) self.old.rest.now result (λ _. (0, 0)) self.new.at K self.new.rest.now }
+        ensures { (K : Params → Ahead) → Runs (0, 0) self.old.at (histogram_ahead K) self.old.rest.now result (λ _. (0, 0)) self.new.at K self.new.rest.now }
     {
         let length = self.setting(b"length")?;
         let chunk = self.setting(b"chunk")?;
@@ -117,7 +117,7 @@ impl Parser<'_> {
     }
 
     fn multihot(&mut self) -> Result<Params, LangFault>
-        ensures { (K : Params → Plan) → Runs (0, 0) self.old.at (multihot_plan K) self.old.rest.now result (λ _. (0, 0)) self.new.at K self.new.rest.now }
+        ensures { (K : Params → Ahead) → Runs (0, 0) self.old.at (multihot_ahead K) self.old.rest.now result (λ _. (0, 0)) self.new.at K self.new.rest.now }
     {
         let length = self.setting(b"length")?;
         let weight = self.setting(b"weight")?;

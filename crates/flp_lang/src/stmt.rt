@@ -2,9 +2,9 @@
 ghost use Rattle.std.specs.Prelude.{◌≡◌, ◌≤◌, ◌<◌, ℕ, List, length, map, IfOk};
 ghost use Rattle.flp_syntax.specs.Tree.{Statement};
 ghost use Rattle.flp_syntax.specs.View.{statement_of};
-ghost use Rattle.flp_lang.specs.Plan as plan;
-ghost use Rattle.flp_lang.specs.Plan.{Plan, next, fixed};
-ghost use Rattle.flp_lang.specs.Run.{Runs, check_plan, out_plan, each_plan};
+ghost use Rattle.flp_lang.specs.Ahead as ahead;
+ghost use Rattle.flp_lang.specs.Ahead.{Ahead, next, fixed};
+ghost use Rattle.flp_lang.specs.Run.{Runs, check_ahead, out_ahead, each_ahead};
 
 use crate::parser::Parser;
 use flp_list::List;
@@ -15,7 +15,7 @@ impl Parser<'_> {
     #[cycle(stmt)]
     pub fn stmts(&mut self, level: u32) -> Result<Vec<Stmt>, LangFault>
         requires { level ≤ 64 }
-        ensures runs { (K : List Statement → Plan) → Runs (level, 0) self.old.at (next plan.stmts K) self.old.rest.now result (λ _. (level, 0)) self.new.at (λ v. K (map statement_of v.items)) self.new.rest.now }
+        ensures runs { (K : List Statement → Ahead) → Runs (level, 0) self.old.at (next ahead.stmts K) self.old.rest.now result (λ _. (level, 0)) self.new.at (λ v. K (map statement_of v.items)) self.new.rest.now }
         ensures left { IfOk result (λ _. length self.new.rest.now < length self.old.rest.now) }
     {
         let first = self.stmt(level)?;
@@ -32,7 +32,7 @@ impl Parser<'_> {
     #[cycle(stmt)]
     fn stmt(&mut self, level: u32) -> Result<Stmt, LangFault>
         requires { level ≤ 64 }
-        ensures runs { (K : Statement → Plan) → Runs (level, 0) self.old.at (next plan.stmt K) self.old.rest.now result (λ _. (level, 0)) self.new.at (λ v. K (statement_of v)) self.new.rest.now }
+        ensures runs { (K : Statement → Ahead) → Runs (level, 0) self.old.at (next ahead.stmt K) self.old.rest.now result (λ _. (level, 0)) self.new.at (λ v. K (statement_of v)) self.new.rest.now }
         ensures left { IfOk result (λ _. length self.new.rest.now < length self.old.rest.now) }
     {
         if self.is_next(Mark::Check) {
@@ -47,7 +47,7 @@ impl Parser<'_> {
     /// `"check" expr ";"`
     fn check(&mut self, level: u32) -> Result<Stmt, LangFault>
         requires { level ≤ 64 }
-        ensures runs { (K : Statement → Plan) → Runs (level, 0) self.old.at (check_plan self.old.at K) self.old.rest.now result (λ _. (level, 0)) self.new.at (λ v. K (statement_of v)) self.new.rest.now }
+        ensures runs { (K : Statement → Ahead) → Runs (level, 0) self.old.at (check_ahead self.old.at K) self.old.rest.now result (λ _. (level, 0)) self.new.at (λ v. K (statement_of v)) self.new.rest.now }
         ensures left { IfOk result (λ _. length self.new.rest.now < length self.old.rest.now) }
     {
         let at = self.at;
@@ -60,7 +60,7 @@ impl Parser<'_> {
     /// `"out" expr ";"`
     fn out(&mut self, level: u32) -> Result<Stmt, LangFault>
         requires { level ≤ 64 }
-        ensures runs { (K : Statement → Plan) → Runs (level, 0) self.old.at (out_plan self.old.at K) self.old.rest.now result (λ _. (level, 0)) self.new.at (λ v. K (statement_of v)) self.new.rest.now }
+        ensures runs { (K : Statement → Ahead) → Runs (level, 0) self.old.at (out_ahead self.old.at K) self.old.rest.now result (λ _. (level, 0)) self.new.at (λ v. K (statement_of v)) self.new.rest.now }
         ensures left { IfOk result (λ _. length self.new.rest.now < length self.old.rest.now) }
     {
         let at = self.at;
@@ -74,7 +74,7 @@ impl Parser<'_> {
     #[cycle(stmt)]
     fn each(&mut self, level: u32) -> Result<Stmt, LangFault>
         requires { level ≤ 64 }
-        ensures runs { (K : Statement → Plan) → Runs (level, 0) self.old.at (each_plan self.old.at K) self.old.rest.now result (λ _. (level, 0)) self.new.at (λ v. K (statement_of v)) self.new.rest.now }
+        ensures runs { (K : Statement → Ahead) → Runs (level, 0) self.old.at (each_ahead self.old.at K) self.old.rest.now result (λ _. (level, 0)) self.new.at (λ v. K (statement_of v)) self.new.rest.now }
         ensures left { IfOk result (λ _. length self.new.rest.now < length self.old.rest.now) }
     {
         let at = self.at;

@@ -1,13 +1,19 @@
 -- Which bytes of the input are the text.
-use Rattle.std.proofs.Common.{ℕ, ◌<◌, ◌≤◌, List, [], ◌++◌, length, take, Option, None, Some, IfSome, ◌≡◌, ⊎_elim, arith}
-use Rattle.std.specs.Io.KnownBytes.{Consumes, IsAtEnd}
+use Rattle.std.proofs.Common.{ℕ, ◌<◌, ◌≤◌, List, [], ◌++◌, length, take, Option, None, Some, IfSome, ◌≡◌, ⊎_elim, subst, arith}
+use Rattle.std.specs.Io.KnownBytes.{Consumes, IsAtEnd, Keeps}
 use Rattle.std.proofs.lemmas.Grind.{common_steps}
 use Rattle.std.proofs.lemmas.Bool.{cases_lt}
 use Rattle.flp_syntax.specs.declared.syntax.Params.{Params}
 use Rattle.flp_syntax.specs.Tree.{Program}
 use Rattle.flp_load.specs.Loaded.{IsLoaded}
 use Rattle.flp_load.proofs.AnswerLemmas.{read_parsed}
-use Rattle.flp_lengths.specs.Reading.{ReadsText, ReadsCircuit}
+use Rattle.flp_load.specs.Fault.{IsCircuitFault}
+use Rattle.flp_load.specs.declared.fault.CircuitFault.{CircuitFault}
+use Rattle.flp_batch.specs.declared.fault.EngineFault.{EngineFault}
+use Rattle.flp_batch.specs.declared.fault.EngineFault.TheVariants.{Memory, Read, Write, Batch, Circuit}
+use Rattle.flp_batch.specs.Fault.{IfFile}
+use Rattle.flp_lengths.specs.Reading.{judged_text, ReadsText, ReadsCircuit, ReadsFault, FailsToRead}
+use Rattle.flp_lengths.specs.Reply.{StopsBy, IsFaultOfText}
 
 -- known bytes that were read up to a limit, or to their end, are their own front
 front_of_known : (most : ℕ) (bytes rest text : List ℕ) → bytes ≡ text ++ rest → length text ≤ most → (length text < most → rest ≡ []) → text ≡ take most bytes
@@ -45,3 +51,29 @@ pub reads_circuit :
 reads_circuit left left' text params circuit read loaded =
     let short = loaded_short text params circuit loaded in
     record { text = text; read = read; ended = read.ended (omega arith); loaded = loaded }
+
+-- a text that was read and is refused
+pub load_fails :
+    (left left' : Option (List ℕ)) (text : List ℕ) (fault : CircuitFault) → ReadsText left left' text → IsCircuitFault text fault → ReadsFault left left' fault
+load_fails left left' text fault read is = record { text = text; read = read; refused = is }
+
+-- where no circuit was read, nothing is written
+pub stops_unread :
+    (left left' taken taken' : Option (List ℕ)) (fault : EngineFault) → FailsToRead fault left left' → Keeps taken taken' → StopsBy fault left left' taken taken'
+stops_unread left left' taken taken' Memory failed kept = kept
+stops_unread left left' taken taken' Read failed kept = kept
+stops_unread left left' taken taken' Write failed kept = absurd failed
+stops_unread left left' taken taken' (Batch fault) failed kept = absurd failed
+stops_unread left left' taken taken' (Circuit fault) failed kept = (kept, failed)
+
+-- the fault of the text that was read is that of the bytes, where these are told
+fault_of_front : (left left' : Option (List ℕ)) (fault : CircuitFault) → ReadsFault left left' fault → IfSome left (λ bytes. IsCircuitFault (judged_text bytes) fault)
+fault_of_front None left' fault failed = tt
+fault_of_front (Some bytes) left' fault failed = subst (λ (text : List ℕ). IsCircuitFault text fault) failed.read.front failed.refused
+
+pub fault_told : (left left' : Option (List ℕ)) (fault : EngineFault) → FailsToRead fault left left' → IfFile fault (λ f. IfSome left (λ bytes. IsFaultOfText bytes f))
+fault_told left left' Memory failed = tt
+fault_told left left' Read failed = tt
+fault_told left left' Write failed = tt
+fault_told left left' (Batch fault) failed = absurd failed
+fault_told left left' (Circuit fault) failed = fault_of_front left left' fault failed

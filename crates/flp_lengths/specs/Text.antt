@@ -4,18 +4,18 @@ use Rattle.flp_syntax.specs.Tree.{Program}
 use Rattle.flp_meaning.specs.Lengths.{Lengths, lengths_of}
 
 -- a name, a space and a number
-abbrev pub line_of : List ℕ → ℕ → List ℕ
-line_of name number = name ++ codes " " ++ decimal number ++ codes "\n"
+abbrev pub length_line : List ℕ → ℕ → List ℕ
+length_line name number = name ++ codes " " ++ decimal number ++ codes "\n"
 
-abbrev pub lines_of : Lengths → List ℕ
-lines_of lengths =
-    line_of (codes "meas") lengths.meas
-    ++ line_of (codes "joint") lengths.joint
-    ++ line_of (codes "prove") lengths.prove
-    ++ line_of (codes "query") lengths.query
-    ++ line_of (codes "proof") lengths.proof
-    ++ line_of (codes "verifier") lengths.verifier
-    ++ line_of (codes "outs") lengths.outs
+abbrev pub length_lines : Lengths → List ℕ
+length_lines lengths =
+    length_line (codes "meas") lengths.meas
+    ++ length_line (codes "joint") lengths.joint
+    ++ length_line (codes "prove") lengths.prove
+    ++ length_line (codes "query") lengths.query
+    ++ length_line (codes "proof") lengths.proof
+    ++ length_line (codes "verifier") lengths.verifier
+    ++ length_line (codes "outs") lengths.outs
 
 abbrev pub lengths_text : Program → List ℕ
-lengths_text circuit = lines_of (lengths_of circuit)
+lengths_text circuit = length_lines (lengths_of circuit)

@@ -1,6 +1,6 @@
 //! The lines that are written.
 ghost use Rattle.std.specs.Prelude.{◌≡◌, ◌++◌, OnOk, IfOk};
-ghost use Rattle.flp_lengths.specs.Text.{line_of, lengths_text};
+ghost use Rattle.flp_lengths.specs.Text.{length_line, lengths_text};
 
 use flp_plan::{Lengths, Plan};
 use itoa::Buffer;
@@ -8,7 +8,7 @@ use std::alloc::{AllocError, Global};
 
 /// Appends the line of a length: its name, a space and the number.
 fn push_line(text: &mut Vec<u8>, name: &[u8], number: u32) -> Result<(), AllocError>
-    ensures { OnOk result (text.new.items ≡ text.old.items ++ line_of name.now number) }
+    ensures { OnOk result (text.new.items ≡ text.old.items ++ length_line name.now number) }
 {
     let mut digits = Buffer::new();
     text.extend_from_slice(name)?;

@@ -1,11 +1,8 @@
--- The line of a file that is no batch, from its words up to the line.
-use Rattle.std.specs.Prelude.{ℕ, List, ◌++◌, codes}
-use Rattle.flp_syntax.specs.declared.fault.LangFault.TheVariants as lang
+-- The words of a file that is no batch, or no job file.
+use Rattle.std.specs.Prelude.{ℕ, List, codes}
 use Rattle.flp_report.specs.declared.fault.BatchFault.{BatchFault}
 use Rattle.flp_report.specs.declared.fault.BatchFault.TheVariants as batch
-use Rattle.flp_load.specs.declared.fault.CircuitFault.TheVariants as circuit
 use Rattle.flp_lines.specs.Pieces.{numbered, paired}
-use Rattle.flp_lines.specs.Circuit.{circuit_line}
 
 -- the words of each fault
 abbrev pub batch_text : BatchFault → List ℕ
@@ -20,20 +17,6 @@ batch_text (batch.Truncated have need) = paired (codes "truncated ") have need
 batch_text batch.Trailing = codes "trailing"
 batch_text (batch.Word place word) = paired (codes "word ") place word
 batch_text (batch.Party shares) = numbered (codes "party ") shares
-
--- the line, which begins with what the file is
-abbrev pub file_line : List ℕ → BatchFault → List ℕ
-file_line file fault = (codes "flp: " ++ file ++ codes ": ") ++ batch_text fault ++ codes "\n"
-
--- the same, but that a text that is too long is a refused circuit
-abbrev pub refused_line : List ℕ → BatchFault → List ℕ
-refused_line file (batch.TextLength length) = circuit_line (circuit.Lang (lang.TextLength length))
-refused_line file fault = file_line file fault
-
--- the line of a batch
-abbrev pub batch_line : BatchFault → List ℕ
-batch_line fault = refused_line (codes "batch") fault
-
--- the line of a job file
-abbrev pub job_line : BatchFault → List ℕ
-job_line fault = refused_line (codes "job") fault
+batch_text (batch.Buckets buckets) = numbered (codes "buckets ") buckets
+batch_text (batch.Width width) = numbered (codes "width ") width
+batch_text (batch.Bucket place bucket) = paired (codes "bucket ") place bucket

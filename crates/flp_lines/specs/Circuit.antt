@@ -1,4 +1,4 @@
--- The line of a refused circuit, from its words up to the line.
+-- The words of a refused circuit, from names up to the words of each fault.
 use Rattle.std.specs.Prelude.{ℕ, List, ◌++◌, codes}
 use Rattle.flp_syntax.specs.declared.fault.LangFault.{LangFault}
 use Rattle.flp_syntax.specs.declared.fault.LangFault.TheVariants as lang
@@ -71,7 +71,3 @@ abbrev pub circuit_text : CircuitFault → List ℕ
 circuit_text (circuit.Lang fault) = lang_text fault
 circuit_text (circuit.Param fault) = param_text fault
 circuit_text (circuit.Plan fault) = plan_text fault
-
--- the line of a refused circuit
-abbrev pub circuit_line : CircuitFault → List ℕ
-circuit_line fault = codes "flp: circuit: " ++ circuit_text fault ++ codes "\n"

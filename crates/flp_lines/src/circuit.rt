@@ -1,19 +1,17 @@
-//! The line of a refused circuit.
-ghost use Rattle.std.specs.Prelude.{◌≡◌, OnOk};
-ghost use Rattle.std.specs.Io.KnownBytes.{Appends};
-ghost use Rattle.flp_io.specs.Faults.{HasCause};
-ghost use Rattle.flp_lines.specs.Circuit.{counted_name, param_name, planned_name, lang_text, param_text, plan_text, circuit_text, circuit_line};
+//! The words of a refused circuit.
+ghost use Rattle.std.specs.Prelude.{◌≡◌, ◌+◌, ◌≤◌, ◌++◌, length};
+ghost use Rattle.flp_lines.specs.Circuit.{counted_name, param_name, planned_name, lang_text, param_text, plan_text, circuit_text};
 
-use crate::pieces::{put_named, put_numbered};
+use crate::line::Line;
 use flp_circuits::{Param, ParamFault};
-use flp_io::{Failed, Sink, put};
 use flp_load::CircuitFault;
 use flp_plan::{PlanCounted, PlanFault};
 use flp_syntax::{Counted, LangFault};
 
 /// The name of what a limit of a text counts.
 fn counted_name(which: Counted) -> &'static [u8]
-    ensures { result.now ≡ counted_name which }
+    ensures name { result.now ≡ counted_name which }
+    ensures size { length result.now ≤ 7 }
 {
     match which {
         Counted::Meas => b"meas",
@@ -30,7 +28,8 @@ fn counted_name(which: Counted) -> &'static [u8]
 
 /// The name of a parameter, or of a number that parameters give.
 fn param_name(which: Param) -> &'static [u8]
-    ensures { result.now ≡ param_name which }
+    ensures name { result.now ≡ param_name which }
+    ensures size { length result.now ≤ 7 }
 {
     match which {
         Param::Max => b"max",
@@ -45,7 +44,8 @@ fn param_name(which: Param) -> &'static [u8]
 
 /// The name of what a limit of a plan counts.
 fn planned_name(which: PlanCounted) -> &'static [u8]
-    ensures { result.now ≡ planned_name which }
+    ensures name { result.now ≡ planned_name which }
+    ensures size { length result.now ≤ 7 }
 {
     match which {
         PlanCounted::Wires => b"wires",
@@ -53,78 +53,67 @@ fn planned_name(which: PlanCounted) -> &'static [u8]
     }
 }
 
-/// Writes the words of a fault of the text.
-fn put_lang_fault<E: Sink>(errors: &mut E, fault: LangFault) -> Result<(), Failed>
-    ensures bytes { OnOk result (Appends (E.taken errors.old) (E.taken errors.new) (lang_text fault)) }
-    ensures cause { HasCause (E.faults errors.old) (E.faults errors.new) result }
+/// Appends the words of a fault of the text.
+fn push_lang_fault(line: &mut Line, fault: LangFault)
+    requires { length line.old ≤ 14 }
+    ensures text { line.new ≡ line.old ++ lang_text fault }
+    ensures size { length line.new ≤ 80 }
 {
     match fault {
-        LangFault::Memory => put(errors, b"memory"),
-        LangFault::TextLength(length) => put_numbered(errors, b"text length ", length),
-        LangFault::Lex(at) => put_numbered(errors, b"lex ", u64::from(at)),
-        LangFault::Syntax(token) => put_numbered(errors, b"syntax ", u64::from(token)),
-        LangFault::Name(token) => put_numbered(errors, b"name ", u64::from(token)),
-        LangFault::Twice(token) => put_numbered(errors, b"twice ", u64::from(token)),
-        LangFault::NotLinear(token) => put_numbered(errors, b"not linear ", u64::from(token)),
-        LangFault::Index(token) => put_numbered(errors, b"index ", u64::from(token)),
-        LangFault::Arity(token) => put_numbered(errors, b"arity ", u64::from(token)),
-        LangFault::Uncalled(gadget) => put_numbered(errors, b"uncalled ", u64::from(gadget)),
-        LangFault::Limit(which, count) => put_named(errors, b"limit ", counted_name(which), count),
-        LangFault::Depth(token) => put_numbered(errors, b"depth ", u64::from(token)),
+        LangFault::Memory => line.push(b"memory"),
+        LangFault::TextLength(length) => line.push_numbered(b"text length ", length),
+        LangFault::Lex(at) => line.push_numbered(b"lex ", u64::from(at)),
+        LangFault::Syntax(token) => line.push_numbered(b"syntax ", u64::from(token)),
+        LangFault::Name(token) => line.push_numbered(b"name ", u64::from(token)),
+        LangFault::Twice(token) => line.push_numbered(b"twice ", u64::from(token)),
+        LangFault::NotLinear(token) => line.push_numbered(b"not linear ", u64::from(token)),
+        LangFault::Index(token) => line.push_numbered(b"index ", u64::from(token)),
+        LangFault::Arity(token) => line.push_numbered(b"arity ", u64::from(token)),
+        LangFault::Uncalled(gadget) => line.push_numbered(b"uncalled ", u64::from(gadget)),
+        LangFault::Limit(which, count) => line.push_named(b"limit ", counted_name(which), count),
+        LangFault::Depth(token) => line.push_numbered(b"depth ", u64::from(token)),
     }
 }
 
-/// Writes the words of refused parameters.
-#[tactic(auto, using(flp_io::proofs::WriteLemmas::writes_join))]
-fn put_param_fault<E: Sink>(errors: &mut E, fault: ParamFault) -> Result<(), Failed>
-    ensures bytes { OnOk result (Appends (E.taken errors.old) (E.taken errors.new) (param_text fault)) }
-    ensures cause { HasCause (E.faults errors.old) (E.faults errors.new) result }
+/// Appends the words of refused parameters.
+fn push_param_fault(line: &mut Line, fault: ParamFault)
+    requires { length line.old ≤ 14 }
+    ensures text { line.new ≡ line.old ++ param_text fault }
+    ensures size { length line.new ≤ 80 }
 {
     match fault {
-        ParamFault::Memory => put(errors, b"memory"),
+        ParamFault::Memory => line.push(b"memory"),
         ParamFault::Zero(which) => {
-            put(errors, b"zero ")?;
-            put(errors, param_name(which))
+            line.push(b"zero ");
+            line.push(param_name(which));
         }
         ParamFault::TooLarge(which, value) => {
-            put_named(errors, b"too large ", param_name(which), value)
+            line.push_named(b"too large ", param_name(which), value)
         }
     }
 }
 
-/// Writes the words of a plan that would be too large.
-fn put_plan_fault<E: Sink>(errors: &mut E, fault: PlanFault) -> Result<(), Failed>
-    ensures bytes { OnOk result (Appends (E.taken errors.old) (E.taken errors.new) (plan_text fault)) }
-    ensures cause { HasCause (E.faults errors.old) (E.faults errors.new) result }
+/// Appends the words of a plan that would be too large.
+fn push_plan_fault(line: &mut Line, fault: PlanFault)
+    requires { length line.old ≤ 14 }
+    ensures text { line.new ≡ line.old ++ plan_text fault }
+    ensures size { length line.new ≤ 80 }
 {
     match fault {
-        PlanFault::Memory => put(errors, b"memory"),
-        PlanFault::Limit(which, count) => put_named(errors, b"limit ", planned_name(which), count),
+        PlanFault::Memory => line.push(b"memory"),
+        PlanFault::Limit(which, count) => line.push_named(b"limit ", planned_name(which), count),
     }
 }
 
-/// Writes the words of a circuit's fault.
-fn put_circuit_text<E: Sink>(errors: &mut E, fault: CircuitFault) -> Result<(), Failed>
-    ensures bytes { OnOk result (Appends (E.taken errors.old) (E.taken errors.new) (circuit_text fault)) }
-    ensures cause { HasCause (E.faults errors.old) (E.faults errors.new) result }
+/// Appends the words of a circuit's fault.
+pub fn push_circuit_fault(line: &mut Line, fault: CircuitFault)
+    requires { length line.old ≤ 14 }
+    ensures text { line.new ≡ line.old ++ circuit_text fault }
+    ensures size { length line.new ≤ 80 }
 {
     match fault {
-        CircuitFault::Lang(fault) => put_lang_fault(errors, fault),
-        CircuitFault::Param(fault) => put_param_fault(errors, fault),
-        CircuitFault::Plan(fault) => put_plan_fault(errors, fault),
+        CircuitFault::Lang(fault) => push_lang_fault(line, fault),
+        CircuitFault::Param(fault) => push_param_fault(line, fault),
+        CircuitFault::Plan(fault) => push_plan_fault(line, fault),
     }
-}
-
-/// Writes the line of a refused circuit. It takes no memory.
-///
-/// # Errors
-/// The sink failed.
-#[tactic(auto, using(flp_io::proofs::WriteLemmas::writes_join))]
-pub fn put_circuit_fault<E: Sink>(errors: &mut E, fault: CircuitFault) -> Result<(), Failed>
-    ensures bytes { OnOk result (Appends (E.taken errors.old) (E.taken errors.new) (circuit_line fault)) }
-    ensures cause { HasCause (E.faults errors.old) (E.faults errors.new) result }
-{
-    put(errors, b"flp: circuit: ")?;
-    put_circuit_text(errors, fault)?;
-    put(errors, b"\n")
 }

@@ -1,17 +1,15 @@
 //! Lines on the error output that several commands say.
 //!
-//! [`put_circuit_fault`] writes the line of a refused circuit, for every command that reads one,
-//! [`put_batch_fault`] that of a file that is no batch, and [`put_job_fault`] that of one that is no job file.
-//! [`put_numbered`], [`put_named`] and [`put_paired`] write the pieces of which such lines are made.
-//! Nothing here takes memory. `specs/Circuit.antt` and `specs/Batch.antt` define the lines.
+//! A line is made in a [`Line`] and written by one [`put`](flp_io::put), so that the lines of two processes do not
+//! mix. [`put_file_fault`] writes the line of every fault that commands share: want of memory, a failed read or
+//! write, a file that is refused, by its kind ([`FileKind`]), and a circuit that is refused. Nothing here takes
+//! memory. `specs/Fault.antt` defines the lines, on `specs/Batch.antt`, `specs/Circuit.antt` and `specs/Pieces.antt`.
 #![tactic(auto)]
 
 mod batch;
 mod circuit;
-mod pieces;
-#[cfg(test)]
-mod tests;
+mod fault;
+mod line;
 
-pub use batch::{put_batch_fault, put_job_fault};
-pub use circuit::put_circuit_fault;
-pub use pieces::{put_named, put_numbered, put_paired};
+pub use fault::{FileKind, put_file_fault, put_memory};
+pub use line::Line;

@@ -2,3 +2,5 @@
 pub mod FaultLemmas
 -- no text has two answers
 pub mod AnswerLemmas
+-- loaded circuits are within the limits
+pub mod LoadedLemmas

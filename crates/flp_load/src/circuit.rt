@@ -12,10 +12,11 @@ ghost use Rattle.flp_load.specs.Loaded.{IsRead, IsChecked, IsLoaded};
 ghost use Rattle.flp_load.specs.Fault.{IsCheckFault, IsLoadFault};
 
 use crate::fault::{CircuitFault, LoadFault};
+use flp_check::check;
 use flp_circuits::{ParamFault, body_of};
-use flp_lang::{LangFault, check, parse};
+use flp_lang::parse;
 use flp_plan::{Plan, PlanFault, compile};
-use flp_syntax::{Body, Circuit, Params};
+use flp_syntax::{Body, Circuit, LangFault, Params};
 use std::alloc::Global;
 
 /// The compiled circuit of a text.

@@ -1,7 +1,7 @@
 //! Why a circuit text is not loaded.
 use flp_circuits::ParamFault;
-use flp_lang::LangFault;
 use flp_plan::PlanFault;
+use flp_syntax::LangFault;
 use thiserror::Error;
 
 /// Why a circuit text is refused: its first fault. None of them is want of memory.

@@ -6,10 +6,19 @@ use Rattle.std.proofs.Math.Seq.{take-append-add}
 use Rattle.std.specs.Prelude.{slice_index}
 use Rattle.flp_gadget.specs.KindTree.{value_of}
 use Rattle.flp_syntax.specs.Tree.{Program}
-use Rattle.flp_meaning.specs.Meaning.{Call, Meant, Run, Reading, then_run, called}
-use Rattle.flp_meaning.specs.Circuit.{circuit_of, calls_of, kind_of, direct, answered}
-use Rattle.flp_meaning.specs.MeaningLaws.{AgreeOn, answering, AnswersDecide, EarlierAnswersDecide, call_values, AnsweredIsDirect, CallsAreFilled, TrueAnswersAreDirect}
+use Rattle.flp_meaning.specs.Meaning.{Call, Meant, Run, Reading, then_run, call_run}
+use Rattle.flp_meaning.specs.Circuit.{circuit_of, calls_of, kind_of, direct}
+use Rattle.flp_meaning.specs.MeaningLaws.{call_values, AnsweredIsDirect, CallsAreFilled}
 use Rattle.flp_meaning.proofs.PartByPart.{Passes, circuit_passes}
+
+-- two ways to answer agree on calls, the first of which comes after so many
+abbrev pub AgreeOn : (ℕ → Call → ℕ) → (ℕ → Call → ℕ) → ℕ → List Call → Type 0
+AgreeOn first second made [] = Unit {0}
+AgreeOn first second made (call ∷ more) = (first made call ≡ second made call) × AgreeOn first second (made + 1) more
+
+-- a reading with other answers
+abbrev pub answering : Reading → (ℕ → Call → ℕ) → Reading
+answering reading answer = record { joint = reading.joint; meas = reading.meas; unit = reading.unit; answer = answer }
 
 agree-append : (a b : ℕ → Call → ℕ) (n : ℕ) (xs ys : List Call) → AgreeOn a b n (xs ++ ys) → AgreeOn a b n xs × AgreeOn a b (n + length xs) ys
 agree-append a b n [] ys h = let same : n + 0 ≡ n = omega arith in (tt, subst (λ m. AgreeOn a b m ys) (sym same) h)
@@ -85,7 +94,7 @@ one_more a b m zero call some h = absurd (omega arith)
 one_more a b m (suc j) call some h = h.0
 
 after_call : (w : Reading) (b : ℕ → Call → ℕ) (gadget : ℕ) (f f' : Run (List ℕ))
-    → Decided w.answer b (List ℕ) f f' → Decided w.answer b ℕ (called w gadget f) (called (answering w b) gadget f')
+    → Decided w.answer b (List ℕ) f f' → Decided w.answer b ℕ (call_run w gadget f) (call_run (answering w b) gadget f')
 unfolding Decided
 after_call w b gadget f f' df n k h =
     let a : ℕ → Call → ℕ = w.answer in
@@ -103,7 +112,7 @@ after_call w b gadget f f' df n k h =
     let front = whole_front a b (List ℕ) f f' n k d df high h in
     let P : Meant (List ℕ) → Type 0 = λ z.
     (take (suc k) (z.calls ++ record { gadget = gadget; inputs = z.value } ∷ []) ≡ take (suc k) (c ++ d))
-    × (length (c ++ d) ≤ k → called (answering w b) gadget (λ _. z) n ≡ called w gadget f n) in
+    × (length (c ++ d) ≤ k → call_run (answering w b) gadget (λ _. z) n ≡ call_run w gadget f n) in
     subst P (sym front.0) (
       refl,
       λ all.
@@ -138,12 +147,17 @@ unfolding Decided
 whole_circuit body w b k h =
     circuit_passes body.gadgets w (answering w b) (Decided w.answer b) (λ _ _ _. Unit {0}) (decided w b) (λ _ _ _. tt) body.stmts 0 k h
 
-pub answers_decide : AnswersDecide
+-- two ways to answer that agree on the calls that are made give the same checks, outs and calls
+pub answers_decide : (body : Program) (reading : Reading) (answer : ℕ → Call → ℕ) → AgreeOn reading.answer answer 0 (calls_of body reading)
+    → circuit_of body (answering reading answer) ≡ circuit_of body reading
 answers_decide body w b h =
     let calls : List Call = calls_of body w in
     (whole_circuit body w b (length calls) (subst (λ l. AgreeOn w.answer b 0 l) (sym (take_all (length calls) calls (omega arith))) h)).1 (omega arith)
 
-pub earlier_answers_decide : EarlierAnswersDecide
+-- if they agree on the first k calls, the calls up to the next one are the same
+earlier_answers_decide : (body : Program) (reading : Reading) (answer : ℕ → Call → ℕ) (k : ℕ)
+    → AgreeOn reading.answer answer 0 (take k (calls_of body reading))
+    → take (k + 1) (calls_of body (answering reading answer)) ≡ take (k + 1) (calls_of body reading)
 earlier_answers_decide body w b k h =
     let next : suc k ≡ k + 1 = omega arith in
     subst (λ j. take j (calls_of body (answering w b)) ≡ take j (calls_of body w)) next (whole_circuit body w b k h).0
@@ -192,8 +206,3 @@ calls_are_filled body x joint answers k h =
     ∙ h j below
     ∙ sym (get_or-take k (map (value_in body) calls) j 0 below)
     ∙ ap (λ l. slice_index l j) (take-map (value_in body) k calls)))
-
-pub true_answers_are_direct : TrueAnswersAreDirect
-true_answers_are_direct body x joint answers h =
-    sym
-    (answers_decide body (answered x joint 1 answers) (λ number call. value_of (kind_of body call.gadget) call.inputs) h)

@@ -15,11 +15,14 @@ use Rattle.flp_syntax.specs.Tree.{Declaration, Program}
 use Rattle.flp_syntax.specs.Scope.{gadget_number}
 use Rattle.flp_meaning.specs.Meaning.{Call, Run, Reading}
 use Rattle.flp_meaning.specs.Circuit.{calls_of}
-use Rattle.flp_meaning.specs.MeaningLaws.{IsCall, CallsAreWell}
-use Rattle.flp_meaning.specs.Gadgets.{times, calls_to, gadgets_called, call_count, call_gadget, call_number}
-use Rattle.flp_meaning.specs.ProofLaws.{CallsAreNumbered}
+use Rattle.flp_meaning.specs.Gadgets.{times, calls_to, calls_made, gadgets_called, call_count, call_gadget, call_number}
 use Rattle.flp_meaning.proofs.Fixed.{gadgets_are_fixed, calls_are_fixed}
 use Rattle.flp_meaning.proofs.PartByPart.{Passes, circuit_passes, HoldsOfInputs, inputs_hold}
+
+-- each call is of a gadget of the circuit, if it has any, and its inputs are words
+pub record IsCall (body : Program) (call : Call) : Type 0 where
+  pub known : 1 ≤ length body.gadgets → call.gadget < length body.gadgets
+  pub words : AreWords call.inputs
 
 AreInputs : Run (List ℕ) → Run (List ℕ) → Type 0
 AreInputs f g = (n : ℕ) → AreWords (f n).value
@@ -76,7 +79,7 @@ well_calls body w = record {
       (All-cons (IsCall body) (record { gadget = gadget; inputs = (f n).value }) [] (some n) (none_of (IsCall body)));
 }
 
-pub calls_are_well : CallsAreWell
+pub calls_are_well : (body : Program) (reading : Reading) → All (IsCall body) (calls_of body reading)
 unfolding WellCalls WellCall AreInputs
 calls_are_well body w =
     circuit_passes body.gadgets w w (WellCalls body) (WellCall body) (well_calls body w)
@@ -122,7 +125,17 @@ stands gadget (call ∷ calls) (suc n) none low is =
     (filter (λ other. eqb other gadget) (take (suc n) (gadgets_in calls))) (calls_to gadget calls)
     (stands gadget calls n none (omega arith) is)
 
-pub calls_are_numbered : CallsAreNumbered
+-- the call with this number among all is the call with its number among those of its gadget
+pub record IsNumbered (body : Program) (reading : Reading) (place : ℕ) (none : Call) : Type 0 where
+  pub from_one : 1 ≤ call_number body place
+  pub up_to_all : call_number body place ≤ calls_made body (call_gadget body place)
+  pub same_gadget : (get_or (calls_of body reading) place none).gadget ≡ call_gadget body place
+  pub same_call :
+      get_or (calls_to (call_gadget body place) (calls_of body reading)) (call_number body place - 1) none
+      ≡ get_or (calls_of body reading) place none
+
+pub calls_are_numbered : (body : Program) (reading : Reading) (place : ℕ) (none : Call) → place < call_count body
+    → IsNumbered body reading place none
 unfolding Stands gadgets_in
 calls_are_numbered body reading place none low =
     let calls : List Call = calls_of body reading in

@@ -13,7 +13,7 @@ use Rattle.flp_syntax.specs.Tree.{Program}
 use Rattle.flp_meaning.specs.Circuit.{calls_of, kind_of}
 use Rattle.flp_meaning.specs.Gadgets.{gadgets_of, arity_of}
 use Rattle.flp_meaning.specs.Lengths.{start_of, verifier_part}
-use Rattle.flp_meaning.specs.Proof.{words_at, seeds_in, polynomial_in, proved, wires_in, formula_in}
+use Rattle.flp_meaning.specs.Proof.{words_at, seeds_in, polynomial_in, with_proof, wires_in, formula_in}
 use Rattle.flp_meaning.specs.Verifier.{point_of, verifier_of, verifier_words, part_of, gadget_holds}
 use Rattle.flp_meaning.specs.ProofLaws.{DecisionsMean}
 use Rattle.flp_meaning.proofs.PartLemmas.{words-parts}
@@ -33,7 +33,7 @@ module _ (body : Program) (x words proof query : List ℕ) (unit : ℕ) where
   unfolding values
   length-values gadget =
       length-map (wires_in body x words proof unit gadget) (λ wire. value_at wire (point_of body query gadget))
-      ∙ length-wires body (calls_of body (proved body x words proof unit)) (seeds_in body proof gadget) gadget
+      ∙ length-wires body (calls_of body (with_proof body x words proof unit)) (seeds_in body proof gadget) gadget
 
   length-verifier : (gadget : ℕ) → gadget < 0 + length body.gadgets → length (verifier_of body x words proof query unit gadget) ≡ verifier_part body gadget
   unfolding values last
@@ -66,7 +66,7 @@ module _ (body : Program) (x words proof query : List ℕ) (unit : ℕ) where
       ap (λ l. eqb (value_of (kind_of body gadget) (words_at 0 n l)) (slice_index l n)) (part-verifier gadget inside)
       ∙ ap₂ (λ (l : List ℕ) (v : ℕ). eqb (value_of (kind_of body gadget) l) v) front back
       ∙ ap (λ v. eqb v (last gadget))
-      (sym (formula_at_point body (calls_of body (proved body x words proof unit)) (seeds_in body proof gadget) gadget t))
+      (sym (formula_at_point body (calls_of body (with_proof body x words proof unit)) (seeds_in body proof gadget) gadget t))
 
   numbered : (k d : ℕ) → k < length (gadgets_of body) → (k < length body.gadgets) × (get_or (gadgets_of body) k d ≡ k)
   numbered k d low =

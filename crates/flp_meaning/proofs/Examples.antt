@@ -13,7 +13,7 @@ use Rattle.std.proofs.lemmas.Bool.{cases_lt}
 use Rattle.flp_poly.specs.Polynomial.{value_at, values_on, poly_product}
 use Rattle.flp_poly.specs.Interpolation.{interpolated}
 use Rattle.flp_poly.proofs.Interpolation.{interpolation_exists, interpolation_unique}
-use Rattle.flp_meaning.specs.Circuit.{checks_of, answered}
+use Rattle.flp_meaning.specs.Circuit.{checks_of, with_answers}
 use Rattle.flp_meaning.specs.Gadgets.{ceil_log}
 use Rattle.flp_meaning.specs.Proof.{answers_in, honest_proof}
 use Rattle.flp_meaning.specs.Verifier.{verifier, query_of, is_taken, check_of}
@@ -83,7 +83,7 @@ wire_of_ones = through (1 ∷ 1 ∷ []) (1 ∷ 0 ∷ []) (two_words 1 1 (omega a
 -- the verifier at 2, from the wires and the answer
 verifier_of_count : (x unit : ℕ) (polynomial answers first second : List ℕ) → List ℕ
 verifier_of_count x unit polynomial answers first second =
-    check_of count_circuit (checks_of count_circuit (answered (x ∷ []) [] unit answers)) (2 ∷ [])
+    check_of count_circuit (checks_of count_circuit (with_answers (x ∷ []) [] unit answers)) (2 ∷ [])
     ∷ value_at first 2 ∷ value_at second 2 ∷ value_at polynomial 2 ∷ []
 
 honest_count : honest_proof count_circuit (1 ∷ []) [] (3 ∷ 5 ∷ []) ≡ 3 ∷ 5 ∷ 6 ∷ 7 ∷ 2 ∷ []

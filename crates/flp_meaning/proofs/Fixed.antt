@@ -4,81 +4,47 @@ use Rattle.std.specs.List.{filter}
 use Rattle.std.proofs.lemmas.List.{map-append}
 use Rattle.flp_syntax.specs.Tree.{Statement, check, out, each, Statements, no_stmts, stmt_on, Declaration, Program}
 use Rattle.flp_syntax.specs.Scope.{Scope, inside, index_value, turns}
-use Rattle.flp_meaning.specs.Meaning.{Call, Run, Reading, Results, performed, statement_of, statements_of}
+use Rattle.flp_meaning.specs.Meaning.{Call, Run, Reading, Results, all_results, statement_of, statements_of}
 use Rattle.flp_meaning.specs.Circuit.{calls_of}
 use Rattle.flp_meaning.specs.Gadgets.{blank}
-use Rattle.flp_meaning.specs.MeaningLaws.{GadgetsAreFixed, InputCountsAreFixed, CallsAreFixed, ChecksAreFixed, OutsAreFixed}
-use Rattle.flp_meaning.proofs.PartByPart.{Passes, circuit_passes, HoldsOfInputs, inputs_hold}
+use Rattle.flp_meaning.specs.MeaningLaws.{GadgetsAreFixed, CallsAreFixed, ChecksAreFixed, OutsAreFixed}
+use Rattle.flp_meaning.proofs.PartByPart.{Passes, circuit_passes}
 
--- ---- gadgets and numbers of inputs
+-- ---- gadgets
 
 gadgets_in : List Call → List ℕ
 gadgets_in calls = map (λ (call : Call). call.gadget) calls
 
-lengths_in : List Call → List ℕ
-lengths_in calls = map (λ (call : Call). length call.inputs) calls
+SameGadgets : (A : Type 0) → Run A → Run A → Type 0
+SameGadgets A f g = (n m : ℕ) → gadgets_in (f n).calls ≡ gadgets_in (g m).calls
 
--- calls of the same gadgets, with as many inputs
-SameCalls : (A : Type 0) → Run A → Run A → Type 0
-SameCalls A f g =
-    (n m : ℕ) → (gadgets_in (f n).calls ≡ gadgets_in (g m).calls) × (lengths_in (f n).calls ≡ lengths_in (g m).calls)
-
-SameLength : Run (List ℕ) → Run (List ℕ) → Type 0
-SameLength f g = (n m : ℕ) → length (f n).value ≡ length (g m).value
-
-same_length : HoldsOfInputs SameLength
-unfolding SameLength
-same_length = record {
-  no_input = λ n m. refl;
-  one_input = λ f g n m. refl;
-  more_inputs = λ f f' g g' hf hg n m.
-      length-append (f n).value (g (n + length (f n).calls)).value
-      ∙ ap₂ (λ (a b : ℕ). a + b) (hf n m) (hg (n + length (f n).calls) (m + length (f' m).calls))
-      ∙ sym (length-append (f' m).value (g' (m + length (f' m).calls)).value);
-}
-
-same_gadgets : (w v : Reading) → Passes w v SameCalls (λ gadget f g. SameLength f g)
-unfolding SameCalls SameLength gadgets_in lengths_in
+same_gadgets : (w v : Reading) → Passes w v SameGadgets (λ gadget f g. Unit {0})
+unfolding SameGadgets gadgets_in
 same_gadgets w v = record {
-  alike = λ A value n m. (refl, refl);
-  joint_word = λ k n m. (refl, refl);
-  meas_word = λ k n m. (refl, refl);
+  alike = λ A value n m. refl;
+  joint_word = λ k n m. refl;
+  meas_word = λ k n m. refl;
   after_change = λ A B change f g h n m. h n m;
   after_unit = λ f g h n m. h n m;
   in_order = λ A B C join f f' g g' hf hg n m.
       let n' : ℕ = n + length (f n).calls in
-      let m' : ℕ = m + length (f' m).calls in (
-        map-append (λ (call : Call). call.gadget) (f n).calls (g n').calls
-            ∙ ap₂ (λ (xs ys : List ℕ). xs ++ ys) (hf n m).0 (hg n' m').0
-            ∙ sym (map-append (λ (call : Call). call.gadget) (f' m).calls (g' m').calls),
-        map-append (λ (call : Call). length call.inputs) (f n).calls (g n').calls
-            ∙ ap₂ (λ (xs ys : List ℕ). xs ++ ys) (hf n m).1 (hg n' m').1
-            ∙ sym (map-append (λ (call : Call). length call.inputs) (f' m).calls (g' m').calls),
-      );
-  after_call = λ gadget f g sizes h n m.
+      let m' : ℕ = m + length (f' m).calls in
+      map-append (λ (call : Call). call.gadget) (f n).calls (g n').calls
+      ∙ ap₂ (λ (xs ys : List ℕ). xs ++ ys) (hf n m) (hg n' m')
+      ∙ sym (map-append (λ (call : Call). call.gadget) (f' m).calls (g' m').calls);
+  after_call = λ gadget f g known h n m.
       let last : Call = record { gadget = gadget; inputs = (f n).value } in
-      let last' : Call = record { gadget = gadget; inputs = (g m).value } in (
-        map-append (λ (call : Call). call.gadget) (f n).calls (last ∷ [])
-            ∙ ap (λ (xs : List ℕ). xs ++ gadget ∷ []) (h n m).0
-            ∙ sym (map-append (λ (call : Call). call.gadget) (g m).calls (last' ∷ [])),
-        map-append (λ (call : Call). length call.inputs) (f n).calls (last ∷ [])
-            ∙ ap₂ (λ (xs : List ℕ) (k : ℕ). xs ++ k ∷ []) (h n m).1 (sizes n m)
-            ∙ sym (map-append (λ (call : Call). length call.inputs) (g m).calls (last' ∷ [])),
-      );
+      let last' : Call = record { gadget = gadget; inputs = (g m).value } in
+      map-append (λ (call : Call). call.gadget) (f n).calls (last ∷ [])
+      ∙ ap (λ (xs : List ℕ). xs ++ gadget ∷ []) (h n m)
+      ∙ sym (map-append (λ (call : Call). call.gadget) (g m).calls (last' ∷ []));
 }
 
-calls_same : (w v : Reading) (body : Program) → SameCalls Results (performed (statements_of body.gadgets w [] body.stmts)) (performed (statements_of body.gadgets v [] body.stmts))
-calls_same w v body =
-    circuit_passes body.gadgets w v SameCalls (λ gadget f g. SameLength f g) (same_gadgets w v)
-    (λ scope name args. inputs_hold body.gadgets w v SameLength same_length scope args) body.stmts
-
 pub gadgets_are_fixed : GadgetsAreFixed
-unfolding SameCalls gadgets_in
-gadgets_are_fixed body reading = (calls_same reading blank body 0 0).0
-
-pub input_counts_are_fixed : InputCountsAreFixed
-unfolding SameCalls lengths_in
-input_counts_are_fixed body reading = (calls_same reading blank body 0 0).1
+unfolding SameGadgets gadgets_in
+gadgets_are_fixed body reading =
+    circuit_passes body.gadgets reading blank SameGadgets (λ gadget f g. Unit {0}) (same_gadgets reading blank)
+    (λ scope name args. tt) body.stmts 0 0
 
 filter-gadgets : (gadget : ℕ) (calls : List Call)
     → length (filter (λ (call : Call). eqb call.gadget gadget) calls) ≡ length (filter (λ other. eqb other gadget) (gadgets_in calls))
@@ -109,7 +75,7 @@ EachSame [] [] = Unit {0}
 EachSame (f ∷ fs) (g ∷ gs) = SameCounts f g × EachSame fs gs
 EachSame _ _ = ⊥
 
-in_turn_same : (fs gs : List (Run Results)) → EachSame fs gs → SameCounts (performed fs) (performed gs)
+in_turn_same : (fs gs : List (Run Results)) → EachSame fs gs → SameCounts (all_results fs) (all_results gs)
 unfolding SameCounts EachSame
 in_turn_same [] [] same n m = (refl, refl)
 in_turn_same [] (g ∷ gs) same n m = elim same [ ]
@@ -119,12 +85,12 @@ in_turn_same (f ∷ fs) (g ∷ gs) same n m =
     let n' : ℕ = n + length (f n).calls in
     let m' : ℕ = m + length (g m).calls in
     let rest = in_turn_same fs gs same.1 n' m' in (
-      length-append (f n).value.checks (performed fs n').value.checks
+      length-append (f n).value.checks (all_results fs n').value.checks
           ∙ ap₂ (λ (a b : ℕ). a + b) first.0 rest.0
-          ∙ sym (length-append (g m).value.checks (performed gs m').value.checks),
-      length-append (f n).value.outs (performed fs n').value.outs
+          ∙ sym (length-append (g m).value.checks (all_results gs m').value.checks),
+      length-append (f n).value.outs (all_results fs n').value.outs
           ∙ ap₂ (λ (a b : ℕ). a + b) first.1 rest.1
-          ∙ sym (length-append (g m).value.outs (performed gs m').value.outs),
+          ∙ sym (length-append (g m).value.outs (all_results gs m').value.outs),
     )
 
 each_turn_same : (f g : ℕ → Run Results) (values : List ℕ) → ((turn : ℕ) → SameCounts (f turn) (g turn)) → EachSame (map f values) (map g values)
@@ -142,8 +108,8 @@ module _ (w v : Reading) where
     statement_same gadgets scope (each at name from to inner) =
         in_turn_same _ _
         (each_turn_same
-        (λ turn. performed (statements_of gadgets w (inside scope name turn) inner))
-        (λ turn. performed (statements_of gadgets v (inside scope name turn) inner))
+        (λ turn. all_results (statements_of gadgets w (inside scope name turn) inner))
+        (λ turn. all_results (statements_of gadgets v (inside scope name turn) inner))
         (turns (index_value scope from) (index_value scope to))
         (λ turn. in_turn_same _ _ (statements_same gadgets (inside scope name turn) inner)))
 
@@ -151,7 +117,7 @@ module _ (w v : Reading) where
     statements_same gadgets scope no_stmts = tt
     statements_same gadgets scope (stmt_on stmt more) = (statement_same gadgets scope stmt, statements_same gadgets scope more)
 
-counts_same : (w v : Reading) (body : Program) → SameCounts (performed (statements_of body.gadgets w [] body.stmts)) (performed (statements_of body.gadgets v [] body.stmts))
+counts_same : (w v : Reading) (body : Program) → SameCounts (all_results (statements_of body.gadgets w [] body.stmts)) (all_results (statements_of body.gadgets v [] body.stmts))
 counts_same w v body = in_turn_same _ _ (statements_same w v body.gadgets [] body.stmts)
 
 pub checks_are_fixed : ChecksAreFixed

@@ -17,13 +17,13 @@ use Rattle.flp_gadget.specs.KindTree.{value_of, formula_of}
 use Rattle.flp_gadget.proofs.FormulaLemmas.{length-formula}
 use Rattle.flp_syntax.specs.Tree.{Program}
 use Rattle.flp_meaning.specs.Meaning.{Call, Reading}
-use Rattle.flp_meaning.specs.Circuit.{circuit_of, calls_of, checks_of, kind_of, direct, answered, IsValid}
+use Rattle.flp_meaning.specs.Circuit.{circuit_of, calls_of, checks_of, kind_of, direct, with_answers, IsValid}
 use Rattle.flp_meaning.specs.Gadgets.{gadgets_of, arity_of, call_count, call_gadget, call_number, log_of, size_of, check_count}
 use Rattle.flp_meaning.specs.Lengths.{coefficient_count, proof_part, start_of, lengths_of}
 use Rattle.flp_meaning.specs.MeaningLaws.{call_values}
 use Rattle.flp_meaning.specs.Wires.{wire_values, wires_of}
-use Rattle.flp_meaning.specs.Proof.{words_at, seeds_in, polynomial_in, seeds_for, honest_part, honest_proof, answer_in, answers_in, proved}
-use Rattle.flp_meaning.specs.Verifier.{point_of, combined, check_of, verifier_words, answer_from, is_taken}
+use Rattle.flp_meaning.specs.Proof.{words_at, seeds_in, polynomial_in, seeds_for, honest_part, honest_proof, answer_in, answers_in, with_proof}
+use Rattle.flp_meaning.specs.Verifier.{point_of, combination, check_of, verifier_words, answer_from, is_taken}
 use Rattle.flp_meaning.specs.ProofLaws.{IsBounded, AreSeeds, HonestProofHasLength, HonestProofHasParts, HonestProofAnswers, HonestProofProves, HonestProofIsAccepted}
 use Rattle.flp_meaning.proofs.Answers.{answered_is_direct}
 use Rattle.flp_meaning.proofs.PartLemmas.{part_inside, length-words_at, words-parts, length-parts}
@@ -33,11 +33,11 @@ use Rattle.flp_meaning.proofs.WireLemmas.{length-wire_values, length-wires, call
 use Rattle.flp_meaning.proofs.Decisions.{decisions_mean}
 
 -- valid checks combine to 0
-combined-zero : (checks query : List ℕ) → All (λ value. value ≡ 0) checks → combined checks query ≡ 0
+combined-zero : (checks query : List ℕ) → All (λ value. value ≡ 0) checks → combination checks query ≡ 0
 combined-zero [] query zeros = refl
 combined-zero (value ∷ more) query zeros =
     let first : value ≡ 0 = zeros 0 0 (omega arith) in
-    let rest : combined more (drop 1 query) ≡ 0 = combined-zero more (drop 1 query) (λ k d low. zeros (suc k) d (omega arith)) in
+    let rest : combination more (drop 1 query) ≡ 0 = combined-zero more (drop 1 query) (λ k d low. zeros (suc k) d (omega arith)) in
     ap₂ (λ (v c : ℕ). slice_index query 0 * v + c) first rest ∙ omega arith
 
 check-zero : (body : Program) (query checks : List ℕ) → All (λ value. value ≡ 0) checks → check_of body checks query ≡ 0
@@ -46,7 +46,7 @@ check-zero body query checks zeros = either (nat_lt 1 (check_count body))
     only : slice_index checks 0 ≡ 0
     only = ⊎_elim (λ (some : 0 < length checks). zeros 0 0 some) (λ (none : length checks ≤ 0). get_or_past checks 0 0 none) (cases_lt 0 (length checks))
 
-    either : (test : Bool) → (if test then combined checks query % modulus else slice_index checks 0) ≡ 0
+    either : (test : Bool) → (if test then combination checks query % modulus else slice_index checks 0) ≡ 0
     either true = ap (λ c. c % modulus) (combined-zero checks query zeros)
     either false = only
 
@@ -152,8 +152,8 @@ module _ (body : Program) (x words seeds : List ℕ) (bounded : IsBounded body) 
       get_or-map-range_with_len (answer_in body (honest_proof body x words seeds)) 0 (call_count body) place place 0 below (omega arith)
       ∙ answer-call place below)
 
-  proves : circuit_of body (proved body x words (honest_proof body x words seeds) 1) ≡ circuit_of body (direct body x words)
-  proves = ap (λ l. circuit_of body (answered x words 1 l)) answers ∙ answered_is_direct body x words
+  proves : circuit_of body (with_proof body x words (honest_proof body x words seeds) 1) ≡ circuit_of body (direct body x words)
+  proves = ap (λ l. circuit_of body (with_answers x words 1 l)) answers ∙ answered_is_direct body x words
 
   -- ---- that it is accepted
 
@@ -164,7 +164,7 @@ module _ (body : Program) (x words seeds : List ℕ) (bounded : IsBounded body) 
     gadgets = λ gadget inside.
         let t : ℕ = point_of body query gadget in
         let rest : List ℕ → List Call → ℕ = λ s c. value_at (formula_of (kind_of body gadget) (wires_of body c s gadget)) t in
-        ap (λ s. rest s (calls_of body (proved body x words (honest_proof body x words seeds) 1))) (has_seeds gadget inside)
+        ap (λ s. rest s (calls_of body (with_proof body x words (honest_proof body x words seeds) 1))) (has_seeds gadget inside)
         ∙ ap (λ m. rest (seeds_for body seeds gadget) m.calls) proves
         ∙ ap (λ p. value_at p t) (sym (has_polynomial gadget inside));
   }
@@ -192,7 +192,7 @@ honest_proof_is_accepted body x words seeds query bounded good valid outside =
 
 pub true_proofs_are_direct : TrueProofsAreDirect
 true_proofs_are_direct body x words proof bounded are_words truth =
-    let reading : Reading = proved body x words proof 1 in
+    let reading : Reading = with_proof body x words proof 1 in
     let calls : List Call = calls_of body reading in
     let answers : List ℕ = answers_in body proof in
     let value : Call → ℕ = λ call. value_of (kind_of body call.gadget) call.inputs in

@@ -1,19 +1,17 @@
--- The outs of a linear circuit: they depend on the encoding alone, and are linear in it.
-use Rattle.std.proofs.Common.{ℕ, ◌≡◌, ◌+◌, ◌*◌, ◌%◌, ◌^◌, Bool, true, false, not, List, [], ◌∷◌, ◌++◌, map, length, refl, ap, ap₂, sym, ◌∙◌}
+-- The outs of a linear circuit: they depend on the encoding alone.
+use Rattle.std.proofs.Common.{ℕ, ◌≡◌, ◌+◌, ◌*◌, ◌%◌, ◌^◌, Bool, true, false, not, List, [], ◌∷◌, ◌++◌, map, length, refl, ap, ap₂, sym}
 use Rattle.std.proofs.lemmas.Bool.{false≢true}
 use Rattle.std.specs.Prelude.{slice_index}
-use Rattle.flp_field.specs.Word.{modulus, word_sum}
+use Rattle.flp_field.specs.Word.{modulus}
 use Rattle.flp_syntax.specs.Tree.{Tree, number, var, joint, meas, meas_or_zero, sum, call, add, mul, pow, Items, no_items, item_on, Trees, no_trees, tree_on, Statement, check, out, each, Statements, no_stmts, stmt_on, Declaration}
 use Rattle.flp_syntax.specs.Sorts.{is_shared, has_shared_item}
 use Rattle.flp_syntax.specs.Scope.{Scope, inside, index_value, turns}
-use Rattle.flp_meaning.specs.Meaning.{Run, Reading, Results, counted, signed, performed, meaning, items_of, factors_of, statement_of, statements_of}
-use Rattle.flp_meaning.specs.Circuit.{circuit_of, direct, outs_of}
-use Rattle.flp_meaning.specs.Linear.{TreeIsLinear, ItemsAreLinear, FactorsAreLinear, StatementIsLinear, StatementsAreLinear}
-use Rattle.flp_meaning.specs.LinearLaws.{Share, ShareIsSum, read, OutsReadWordsAlone, OutsAddUp}
+use Rattle.flp_meaning.specs.Meaning.{Run, Reading, Results, in_units, value_with_sign, all_results, meaning, items_of, factors_of, statement_of, statements_of}
+use Rattle.flp_syntax.specs.Linear.{TreeIsLinear, ItemsAreLinear, FactorsAreLinear, StatementIsLinear, StatementsAreLinear}
+use Rattle.flp_meaning.specs.LinearLaws.{OutsReadWordsAlone}
 use Rattle.flp_meaning.proofs.Public.{SameValue, EachValue, in_turn_value, each_turn_value}
-use Rattle.flp_meaning.proofs.Sums.{circuit_adds, is_sum-words}
 
-shared_counted : (w v : Reading) (shared : Bool) (f g : Run ℕ) → shared ≡ true → SameValue f g → SameValue (counted w shared f) (counted v shared g)
+shared_counted : (w v : Reading) (shared : Bool) (f g : Run ℕ) → shared ≡ true → SameValue f g → SameValue (in_units w shared f) (in_units v shared g)
 shared_counted w v true f g is same = same
 shared_counted w v false f g is same = absurd (false≢true is)
 
@@ -29,7 +27,7 @@ EachOuts [] [] = Unit {0}
 EachOuts (f ∷ fs) (g ∷ gs) = OutsSame f g × EachOuts fs gs
 EachOuts _ _ = ⊥
 
-outs_in_turn : (fs gs : List (Run Results)) → EachOuts fs gs → OutsSame (performed fs) (performed gs)
+outs_in_turn : (fs gs : List (Run Results)) → EachOuts fs gs → OutsSame (all_results fs) (all_results gs)
 unfolding OutsSame EachOuts
 outs_in_turn [] [] same n m = refl
 outs_in_turn [] (g ∷ gs) same n m = elim same [ ]
@@ -47,7 +45,7 @@ module _ (w v : Reading) (one_encoding : w.meas ≡ v.meas) where
   mutual
     unfolding SameValue EachValue
 
-    out_tree : (gadgets : List Declaration) (scope : Scope) (tree : Tree) → TreeIsLinear true tree → SameValue (meaning gadgets w scope tree) (meaning gadgets v scope tree)
+    pub out_tree : (gadgets : List Declaration) (scope : Scope) (tree : Tree) → TreeIsLinear true tree → SameValue (meaning gadgets w scope tree) (meaning gadgets v scope tree)
     out_tree gadgets scope (number at value) linear = λ n m. (refl, refl)
     out_tree gadgets scope (var at name) linear = λ n m. (refl, refl)
     out_tree gadgets scope (joint at index) linear = absurd (false≢true (sym linear))
@@ -73,11 +71,11 @@ module _ (w v : Reading) (one_encoding : w.meas ≡ v.meas) where
     out_items gadgets scope true (item_on minus expr more) linear = (
       λ n m.
           let inner = shared_counted w v (is_shared expr) _ _ (all_are_shared (is_shared expr) linear.0) (out_tree gadgets scope expr linear.1) n m in
-          (ap (signed minus) inner.0, inner.1),
+          (ap (value_with_sign minus) inner.0, inner.1),
       out_items gadgets scope true more linear.2,
     )
     out_items gadgets scope false (item_on minus expr more) linear = (
-      λ n m. let inner = out_tree gadgets scope expr linear.1 n m in (ap (signed minus) inner.0, inner.1),
+      λ n m. let inner = out_tree gadgets scope expr linear.1 n m in (ap (value_with_sign minus) inner.0, inner.1),
       out_items gadgets scope false more linear.2,
     )
 
@@ -96,8 +94,8 @@ module _ (w v : Reading) (one_encoding : w.meas ≡ v.meas) where
     out_statement gadgets scope (each at name from to inner) linear =
         outs_in_turn _ _
         (outs_each_turn
-        (λ turn. performed (statements_of gadgets w (inside scope name turn) inner))
-        (λ turn. performed (statements_of gadgets v (inside scope name turn) inner))
+        (λ turn. all_results (statements_of gadgets w (inside scope name turn) inner))
+        (λ turn. all_results (statements_of gadgets v (inside scope name turn) inner))
         (turns (index_value scope from) (index_value scope to))
         (λ turn. outs_in_turn _ _ (out_statements gadgets (inside scope name turn) inner linear)))
 
@@ -110,13 +108,3 @@ pub outs_read_words_alone : OutsReadWordsAlone
 unfolding OutsSame
 outs_read_words_alone body w v linear same =
     outs_in_turn _ _ (out_statements w v same body.gadgets [] body.stmts linear) 0 0
-
-pub outs_add_up : OutsAddUp
-outs_add_up body whole left right linear sums k =
-    let share : List ℕ → Share = λ x. record { x = x; unit = 0; answers = [] } in
-    let own : (x : List ℕ) → outs_of body x ≡ (circuit_of body (read [] (share x))).value.outs =
-    λ x. outs_read_words_alone body (direct body x []) (read [] (share x)) linear refl in
-    let adds : ShareIsSum (share whole) (share left) (share right) = record { words = sums; unit = refl; answers = λ j. refl } in
-    ap (λ l. slice_index l k) (own whole)
-    ∙ is_sum-words (circuit_adds body [] (share whole) (share left) (share right) linear adds).2 k
-    ∙ sym (ap₂ (λ (l m : List ℕ). word_sum (slice_index l k) (slice_index m k)) (own left) (own right))

@@ -5,7 +5,7 @@ use Rattle.std.specs.Prelude.{slice_index}
 use Rattle.flp_syntax.specs.Tree.{Tree, number, var, joint, meas, meas_or_zero, sum, call, add, mul, pow, Items, no_items, item_on, Trees, no_trees, tree_on, Declaration}
 use Rattle.flp_syntax.specs.Sorts.{is_shared, has_shared_item, has_shared}
 use Rattle.flp_syntax.specs.Scope.{Scope, inside, index_value, turns}
-use Rattle.flp_meaning.specs.Meaning.{Call, Run, Reading, in_turn, signed, meaning, items_of, factors_of}
+use Rattle.flp_meaning.specs.Meaning.{Call, Run, Reading, in_turn, value_with_sign, meaning, items_of, factors_of}
 
 -- neither of the two
 pub neither : (a b : Bool) → (a || b) ≡ false → (a ≡ false) × (b ≡ false)
@@ -66,7 +66,7 @@ module _ (w v : Reading) (one_joint : w.joint ≡ v.joint) where
     public_items gadgets scope true (item_on minus expr more) none h = absurd (false≢true (sym none))
     public_items gadgets scope false (item_on minus expr more) none h =
         let parts = neither (is_shared expr) (has_shared_item more) h in (
-          λ n m. let inner = public_tree gadgets scope expr parts.0 n m in (ap (signed minus) inner.0, inner.1),
+          λ n m. let inner = public_tree gadgets scope expr parts.0 n m in (ap (value_with_sign minus) inner.0, inner.1),
           public_items gadgets scope false more none parts.1,
         )
 

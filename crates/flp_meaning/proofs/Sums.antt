@@ -1,6 +1,6 @@
 -- A linear circuit under three answered readings, of which the first is the sum of the others: its checks and the inputs of its calls are sums too.
-use Rattle.std.proofs.Common.{ℕ, zero, suc, ◌≡◌, ◌+◌, ◌-◌, ◌*◌, ◌%◌, Bool, true, false, ◌&&◌, ◌||◌, cond, List, [], ◌∷◌, ◌++◌, map, length, get_or, refl, ap, sym, subst, ◌∙◌, arith, eqb}
-use Rattle.std.proofs.lemmas.Bool.{false≢true}
+use Rattle.std.proofs.Common.{ℕ, zero, suc, ◌≡◌, ◌+◌, ◌-◌, ◌*◌, ◌%◌, Bool, true, false, ◌&&◌, ◌||◌, cond, List, [], ◌∷◌, ◌++◌, map, length, refl, ap, sym, subst, ◌∙◌, arith, eqb}
+use Rattle.std.proofs.lemmas.Bool.{false≢true, or_right}
 use Rattle.std.specs.Prelude.{slice_index}
 use Rattle.std.specs.Option.{unwrap_or}
 use Rattle.flp_field.specs.Word.{modulus, word_sum}
@@ -8,13 +8,34 @@ use Rattle.flp_field.proofs.Congruence.{Same, same_add, same_mul, same_mod}
 use Rattle.flp_syntax.specs.Tree.{Tree, number, var, joint, meas, meas_or_zero, sum, call, add, mul, pow, Items, no_items, item_on, Trees, no_trees, tree_on, Argument, one, each_arg, Arguments, no_args, arg_on, Statement, check, out, each, Statements, no_stmts, stmt_on, Declaration, Program}
 use Rattle.flp_syntax.specs.Sorts.{is_shared, has_shared_item, has_shared}
 use Rattle.flp_syntax.specs.Scope.{Scope, inside, index_value, turns, gadget_number}
-use Rattle.flp_meaning.specs.Meaning.{Call, Run, Results, changed, then_run, in_turn, total, product, listed, performed, called, counted, signed, meaning, items_of, factors_of, argument_of, arguments_of, statement_of, statements_of, one_check, one_out, join_results, no_results}
-use Rattle.flp_meaning.specs.Circuit.{circuit_of, calls_of, checks_of}
+use Rattle.flp_meaning.specs.Meaning.{Call, Run, Reading, Results, map_run, then_run, in_turn, total, product, concatenation, all_results, call_run, in_units, value_with_sign, meaning, items_of, factors_of, argument_of, arguments_of, statement_of, statements_of, one_check, one_out, join_results, no_results}
+use Rattle.flp_meaning.specs.Circuit.{calls_of, checks_of, with_answers}
 use Rattle.flp_meaning.specs.Gadgets.{calls_to}
 use Rattle.flp_meaning.specs.Wires.{inputs_at}
-use Rattle.flp_meaning.specs.Linear.{TreeIsLinear, ItemsAreLinear, FactorsAreLinear, ArgumentIsLinear, ArgumentsAreLinear, StatementIsLinear, StatementsAreLinear, IsLinear}
-use Rattle.flp_meaning.specs.LinearLaws.{IsSumOf, Share, ShareIsSum, read, ChecksAddUp, InputsAddUp, WireInputsAddUp}
+use Rattle.flp_syntax.specs.Linear.{TreeIsLinear, ItemsAreLinear, FactorsAreLinear, ArgumentIsLinear, ArgumentsAreLinear, StatementIsLinear, StatementsAreLinear, IsLinear}
+use Rattle.flp_meaning.proofs.LinearLemmas.{behind_public}
 use Rattle.flp_meaning.proofs.Public.{SameValue, in_turn_value, public_tree, public_factors}
+
+-- ---- sums of shares
+
+-- each word of a list is the sum of those of two others, where a word past the end is 0
+abbrev pub IsSumOf : (whole left right : List ℕ) → Type 0
+IsSumOf whole left right = (k : ℕ) → slice_index whole k ≡ word_sum (slice_index left k) (slice_index right k)
+
+-- what an answered reading reads: an encoding, the unit, and the answers
+pub record Share : Type 0 where
+  pub x : List ℕ
+  pub unit : ℕ
+  pub answers : List ℕ
+
+-- a share is the sum of two others
+pub record ShareIsSum (whole left right : Share) : Type 0 where
+  pub words : IsSumOf whole.x left.x right.x
+  pub unit : whole.unit ≡ word_sum left.unit right.unit
+  pub answers : IsSumOf whole.answers left.answers right.answers
+
+abbrev pub reading_of : List ℕ → Share → Reading
+reading_of words share = with_answers share.x words share.unit share.answers
 
 -- ---- sums of words, of lists and of calls
 
@@ -97,7 +118,7 @@ adds-times k a b c e =
     let spread : (b + c) * k ≡ b * k + c * k = omega arith in
     same_mul a (b + c) k k e refl ∙ ap (λ (x : ℕ). x % modulus) spread
 
-adds-signed : (minus : Bool) (a b c : ℕ) → Adds a b c → Adds (signed minus a) (signed minus b) (signed minus c)
+adds-signed : (minus : Bool) (a b c : ℕ) → Adds a b c → Adds (value_with_sign minus a) (value_with_sign minus b) (value_with_sign minus c)
 adds-signed true a b c e = adds-scaled (modulus - 1) a b c e
 adds-signed false a b c e = e
 
@@ -115,35 +136,12 @@ adds-units r s t k e = adds-times k r s t (adds-word r s t e)
 ResultsAdd : Results → Results → Results → Type 0
 ResultsAdd a b c = WordsAdd a.checks b.checks c.checks × WordsAdd a.outs b.outs c.outs
 
--- nothing behind a shared factor is shared
-or_right : (a b : Bool) → b ≡ true → (a || b) ≡ true
-or_right true b h = refl
-or_right false b h = h
-
-or_left : (a b : Bool) → a ≡ true → (a || b) ≡ true
-or_left true b h = refl
-or_left false b h = absurd (false≢true h)
-
-and_left : (a b : Bool) → a ≡ true → (a && b) ≡ false → b ≡ false
-and_left true b h e = e
-and_left false b h e = absurd (false≢true h)
-
-both_false : (a b : Bool) → a ≡ false → b ≡ false → (a || b) ≡ false
-both_false true b h e = h
-both_false false b h e = e
-
-behind_public : (in_out behind : Bool) (factors : Trees) → behind ≡ true → FactorsAreLinear in_out behind factors → has_shared factors ≡ false
-behind_public in_out behind no_trees h linear = refl
-behind_public in_out behind (tree_on expr more) h linear =
-    both_false (is_shared expr) (has_shared more) (and_left behind (is_shared expr) h linear.0)
-    (behind_public in_out (behind || is_shared expr) more (or_left behind (is_shared expr) h) linear.2)
-
 -- ---- one circuit under the three readings
 
 module _ (words : List ℕ) (whole left right : Share) (sums : ShareIsSum whole left right) where
   -- a part that is public where it is not shared
   counted_adds : (shared : Bool) (f g h : Run ℕ) → (shared ≡ true → RunsAdd Adds f g h) → (shared ≡ false → SameValue f g × SameValue f h × SameValue g g × SameValue h h)
-      → RunsAdd Adds (counted (read words whole) shared f) (counted (read words left) shared g) (counted (read words right) shared h)
+      → RunsAdd Adds (in_units (reading_of words whole) shared f) (in_units (reading_of words left) shared g) (in_units (reading_of words right) shared h)
   unfolding RunsAdd SameValue
   counted_adds true f g h when_shared when_public = when_shared refl
   counted_adds false f g h when_shared when_public = λ n.
@@ -158,15 +156,15 @@ module _ (words : List ℕ) (whole left right : Share) (sums : ShareIsSum whole 
       )
 
   all_public : (gadgets : List Declaration) (scope : Scope) (tree : Tree) → is_shared tree ≡ false
-      → SameValue (meaning gadgets (read words whole) scope tree) (meaning gadgets (read words left) scope tree)
-      × SameValue (meaning gadgets (read words whole) scope tree) (meaning gadgets (read words right) scope tree)
-      × SameValue (meaning gadgets (read words left) scope tree) (meaning gadgets (read words left) scope tree)
-      × SameValue (meaning gadgets (read words right) scope tree) (meaning gadgets (read words right) scope tree)
+      → SameValue (meaning gadgets (reading_of words whole) scope tree) (meaning gadgets (reading_of words left) scope tree)
+      × SameValue (meaning gadgets (reading_of words whole) scope tree) (meaning gadgets (reading_of words right) scope tree)
+      × SameValue (meaning gadgets (reading_of words left) scope tree) (meaning gadgets (reading_of words left) scope tree)
+      × SameValue (meaning gadgets (reading_of words right) scope tree) (meaning gadgets (reading_of words right) scope tree)
   all_public gadgets scope tree h = (
-    public_tree (read words whole) (read words left) refl gadgets scope tree h,
-    public_tree (read words whole) (read words right) refl gadgets scope tree h,
-    public_tree (read words left) (read words left) refl gadgets scope tree h,
-    public_tree (read words right) (read words right) refl gadgets scope tree h,
+    public_tree (reading_of words whole) (reading_of words left) refl gadgets scope tree h,
+    public_tree (reading_of words whole) (reading_of words right) refl gadgets scope tree h,
+    public_tree (reading_of words left) (reading_of words left) refl gadgets scope tree h,
+    public_tree (reading_of words right) (reading_of words right) refl gadgets scope tree h,
   )
 
   -- a shared part times public ones, on either side
@@ -207,7 +205,7 @@ module _ (words : List ℕ) (whole left right : Share) (sums : ShareIsSum whole 
       (subst (λ j. P [] j (h n).calls) (sym (pp n n).1) (subst (λ k. P [] [] k) (sym (qq n n).1) base))
 
   add_after_call : (gadget : ℕ) (f g h : Run (List ℕ)) → RunsAdd WordsAdd f g h
-      → RunsAdd Adds (called (read words whole) gadget f) (called (read words left) gadget g) (called (read words right) gadget h)
+      → RunsAdd Adds (call_run (reading_of words whole) gadget f) (call_run (reading_of words left) gadget g) (call_run (reading_of words right) gadget h)
   unfolding RunsAdd
   add_after_call gadget f g h r n =
       let here = r n in
@@ -222,51 +220,51 @@ module _ (words : List ℕ) (whole left right : Share) (sums : ShareIsSum whole 
         calls-append here.1 last,
       )
 
-  signed_adds : (minus : Bool) (f g h : Run ℕ) → RunsAdd Adds f g h → RunsAdd Adds (changed (signed minus) f) (changed (signed minus) g) (changed (signed minus) h)
+  signed_adds : (minus : Bool) (f g h : Run ℕ) → RunsAdd Adds f g h → RunsAdd Adds (map_run (value_with_sign minus) f) (map_run (value_with_sign minus) g) (map_run (value_with_sign minus) h)
   unfolding RunsAdd
   signed_adds minus f g h r n = (adds-signed minus (f n).value (g n).value (h n).value (r n).0, (r n).1)
 
-  input_adds : (f g h : Run ℕ) → RunsAdd Adds f g h → RunsAdd WordsAdd (changed (λ value. value % modulus ∷ []) f) (changed (λ value. value % modulus ∷ []) g) (changed (λ value. value % modulus ∷ []) h)
+  input_adds : (f g h : Run ℕ) → RunsAdd Adds f g h → RunsAdd WordsAdd (map_run (λ value. value % modulus ∷ []) f) (map_run (λ value. value % modulus ∷ []) g) (map_run (λ value. value % modulus ∷ []) h)
   unfolding RunsAdd
   input_adds f g h r n = (word_on (word-adds (f n).value (g n).value (h n).value (r n).0) no_words, (r n).1)
 
-  check_adds : (f g h : Run ℕ) → RunsAdd Adds f g h → RunsAdd ResultsAdd (changed one_check f) (changed one_check g) (changed one_check h)
+  check_adds : (f g h : Run ℕ) → RunsAdd Adds f g h → RunsAdd ResultsAdd (map_run one_check f) (map_run one_check g) (map_run one_check h)
   unfolding RunsAdd ResultsAdd
   check_adds f g h r n = ((word_on (word-adds (f n).value (g n).value (h n).value (r n).0) no_words, no_words), (r n).1)
 
-  out_adds : (f g h : Run ℕ) → RunsAdd Adds f g h → RunsAdd ResultsAdd (changed one_out f) (changed one_out g) (changed one_out h)
+  out_adds : (f g h : Run ℕ) → RunsAdd Adds f g h → RunsAdd ResultsAdd (map_run one_out f) (map_run one_out g) (map_run one_out h)
   unfolding RunsAdd ResultsAdd
   out_adds f g h r n = ((no_words, word_on (word-adds (f n).value (g n).value (h n).value (r n).0) no_words), (r n).1)
 
-  listed_adds : {fs gs hs : List (Run (List ℕ))} → EachAdd WordsAdd fs gs hs → RunsAdd WordsAdd (listed fs) (listed gs) (listed hs)
+  listed_adds : {fs gs hs : List (Run (List ℕ))} → EachAdd WordsAdd fs gs hs → RunsAdd WordsAdd (concatenation fs) (concatenation gs) (concatenation hs)
   listed_adds each_one = add_in_turn WordsAdd WordsAdd (λ xs ys. xs ++ ys) [] (λ a b c a' b' c' e f. words-append e f) no_words each_one
 
   total_adds : {fs gs hs : List (Run ℕ)} → EachAdd Adds fs gs hs → RunsAdd Adds (total fs) (total gs) (total hs)
   total_adds each_one = add_in_turn Adds Adds (λ a b. a + b) 0 adds-sum refl each_one
 
-  performed_adds : {fs gs hs : List (Run Results)} → EachAdd ResultsAdd fs gs hs → RunsAdd ResultsAdd (performed fs) (performed gs) (performed hs)
+  performed_adds : {fs gs hs : List (Run Results)} → EachAdd ResultsAdd fs gs hs → RunsAdd ResultsAdd (all_results fs) (all_results gs) (all_results hs)
   unfolding ResultsAdd
   performed_adds each_one =
       add_in_turn ResultsAdd ResultsAdd join_results no_results
       (λ a b c a' b' c' e f. (words-append e.0 f.0, words-append e.1 f.1)) (no_words, no_words) each_one
 
   public_product : (gadgets : List Declaration) (scope : Scope) (factors : Trees) → has_shared factors ≡ false
-      → SameValue (product (factors_of gadgets (read words whole) scope factors)) (product (factors_of gadgets (read words left) scope factors))
-      × SameValue (product (factors_of gadgets (read words whole) scope factors)) (product (factors_of gadgets (read words right) scope factors))
-      × SameValue (product (factors_of gadgets (read words left) scope factors)) (product (factors_of gadgets (read words left) scope factors))
-      × SameValue (product (factors_of gadgets (read words right) scope factors)) (product (factors_of gadgets (read words right) scope factors))
+      → SameValue (product (factors_of gadgets (reading_of words whole) scope factors)) (product (factors_of gadgets (reading_of words left) scope factors))
+      × SameValue (product (factors_of gadgets (reading_of words whole) scope factors)) (product (factors_of gadgets (reading_of words right) scope factors))
+      × SameValue (product (factors_of gadgets (reading_of words left) scope factors)) (product (factors_of gadgets (reading_of words left) scope factors))
+      × SameValue (product (factors_of gadgets (reading_of words right) scope factors)) (product (factors_of gadgets (reading_of words right) scope factors))
   public_product gadgets scope factors h = (
-    in_turn_value (λ a b. a * b) 1 _ _ (public_factors (read words whole) (read words left) refl gadgets scope factors h),
-    in_turn_value (λ a b. a * b) 1 _ _ (public_factors (read words whole) (read words right) refl gadgets scope factors h),
-    in_turn_value (λ a b. a * b) 1 _ _ (public_factors (read words left) (read words left) refl gadgets scope factors h),
-    in_turn_value (λ a b. a * b) 1 _ _ (public_factors (read words right) (read words right) refl gadgets scope factors h),
+    in_turn_value (λ a b. a * b) 1 _ _ (public_factors (reading_of words whole) (reading_of words left) refl gadgets scope factors h),
+    in_turn_value (λ a b. a * b) 1 _ _ (public_factors (reading_of words whole) (reading_of words right) refl gadgets scope factors h),
+    in_turn_value (λ a b. a * b) 1 _ _ (public_factors (reading_of words left) (reading_of words left) refl gadgets scope factors h),
+    in_turn_value (λ a b. a * b) 1 _ _ (public_factors (reading_of words right) (reading_of words right) refl gadgets scope factors h),
   )
 
   one_factor : (gadgets : List Declaration) (scope : Scope) (expr : Tree) (more : Trees) (shared : Bool) → is_shared expr ≡ shared → (is_shared expr ≡ true → has_shared more ≡ false)
-      → (is_shared expr ≡ true → RunsAdd Adds (meaning gadgets (read words whole) scope expr) (meaning gadgets (read words left) scope expr) (meaning gadgets (read words right) scope expr))
-      → (has_shared more ≡ true → RunsAdd Adds (product (factors_of gadgets (read words whole) scope more)) (product (factors_of gadgets (read words left) scope more)) (product (factors_of gadgets (read words right) scope more)))
+      → (is_shared expr ≡ true → RunsAdd Adds (meaning gadgets (reading_of words whole) scope expr) (meaning gadgets (reading_of words left) scope expr) (meaning gadgets (reading_of words right) scope expr))
+      → (has_shared more ≡ true → RunsAdd Adds (product (factors_of gadgets (reading_of words whole) scope more)) (product (factors_of gadgets (reading_of words left) scope more)) (product (factors_of gadgets (reading_of words right) scope more)))
       → (is_shared expr || has_shared more) ≡ true
-      → RunsAdd Adds (product (factors_of gadgets (read words whole) scope (tree_on expr more))) (product (factors_of gadgets (read words left) scope (tree_on expr more))) (product (factors_of gadgets (read words right) scope (tree_on expr more)))
+      → RunsAdd Adds (product (factors_of gadgets (reading_of words whole) scope (tree_on expr more))) (product (factors_of gadgets (reading_of words left) scope (tree_on expr more))) (product (factors_of gadgets (reading_of words right) scope (tree_on expr more)))
   one_factor gadgets scope expr more true is one_shared first rest h =
       let others = public_product gadgets scope more (one_shared is) in
       times_public _ _ _ _ _ _ (first is) others.0 others.1 others.2 others.3
@@ -278,7 +276,7 @@ module _ (words : List ℕ) (whole left right : Share) (sums : ShareIsSum whole 
     unfolding RunsAdd
 
     tree_adds : (gadgets : List Declaration) (scope : Scope) (in_out : Bool) (tree : Tree) → TreeIsLinear in_out tree → is_shared tree ≡ true
-        → RunsAdd Adds (meaning gadgets (read words whole) scope tree) (meaning gadgets (read words left) scope tree) (meaning gadgets (read words right) scope tree)
+        → RunsAdd Adds (meaning gadgets (reading_of words whole) scope tree) (meaning gadgets (reading_of words left) scope tree) (meaning gadgets (reading_of words right) scope tree)
     tree_adds gadgets scope in_out (number at value) linear h = absurd (false≢true h)
     tree_adds gadgets scope in_out (var at name) linear h = absurd (false≢true h)
     tree_adds gadgets scope in_out (joint at index) linear h = absurd (false≢true h)
@@ -287,9 +285,9 @@ module _ (words : List ℕ) (whole left right : Share) (sums : ShareIsSum whole 
     tree_adds gadgets scope in_out (sum at name from to inner) linear h =
         total_adds
         (each_turn_adds Adds
-        (λ turn. meaning gadgets (read words whole) (inside scope name turn) inner)
-        (λ turn. meaning gadgets (read words left) (inside scope name turn) inner)
-        (λ turn. meaning gadgets (read words right) (inside scope name turn) inner)
+        (λ turn. meaning gadgets (reading_of words whole) (inside scope name turn) inner)
+        (λ turn. meaning gadgets (reading_of words left) (inside scope name turn) inner)
+        (λ turn. meaning gadgets (reading_of words right) (inside scope name turn) inner)
         (turns (index_value scope from) (index_value scope to))
         (λ turn. tree_adds gadgets (inside scope name turn) in_out inner linear h))
     tree_adds gadgets scope in_out (call at name args) linear h =
@@ -299,7 +297,7 @@ module _ (words : List ℕ) (whole left right : Share) (sums : ShareIsSum whole 
     tree_adds gadgets scope in_out (pow at base exponent) linear h = absurd (false≢true (sym linear.0 ∙ h))
 
     items_add : (gadgets : List Declaration) (scope : Scope) (in_out all_shared mixed : Bool) (items : Items) → mixed ≡ true → ItemsAreLinear in_out all_shared items
-        → EachAdd Adds (items_of gadgets (read words whole) scope mixed items) (items_of gadgets (read words left) scope mixed items) (items_of gadgets (read words right) scope mixed items)
+        → EachAdd Adds (items_of gadgets (reading_of words whole) scope mixed items) (items_of gadgets (reading_of words left) scope mixed items) (items_of gadgets (reading_of words right) scope mixed items)
     items_add gadgets scope in_out all_shared mixed no_items some linear = no_runs
     items_add gadgets scope in_out all_shared false (item_on minus expr more) some linear = absurd (false≢true some)
     items_add gadgets scope in_out all_shared true (item_on minus expr more) some linear =
@@ -309,7 +307,7 @@ module _ (words : List ℕ) (whole left right : Share) (sums : ShareIsSum whole 
         (items_add gadgets scope in_out all_shared true more some linear.2)
 
     factors_add : (gadgets : List Declaration) (scope : Scope) (in_out behind : Bool) (factors : Trees) → FactorsAreLinear in_out behind factors → has_shared factors ≡ true
-        → RunsAdd Adds (product (factors_of gadgets (read words whole) scope factors)) (product (factors_of gadgets (read words left) scope factors)) (product (factors_of gadgets (read words right) scope factors))
+        → RunsAdd Adds (product (factors_of gadgets (reading_of words whole) scope factors)) (product (factors_of gadgets (reading_of words left) scope factors)) (product (factors_of gadgets (reading_of words right) scope factors))
     factors_add gadgets scope in_out behind no_trees linear h = absurd (false≢true h)
     factors_add gadgets scope in_out behind (tree_on expr more) linear h =
         one_factor gadgets scope expr more (is_shared expr) refl
@@ -318,21 +316,21 @@ module _ (words : List ℕ) (whole left right : Share) (sums : ShareIsSum whole 
         (λ e. factors_add gadgets scope in_out (behind || is_shared expr) more linear.2 e) h
 
     arguments_add : (gadgets : List Declaration) (scope : Scope) (in_out : Bool) (args : Arguments) → ArgumentsAreLinear in_out args
-        → EachAdd WordsAdd (arguments_of gadgets (read words whole) scope args) (arguments_of gadgets (read words left) scope args) (arguments_of gadgets (read words right) scope args)
+        → EachAdd WordsAdd (arguments_of gadgets (reading_of words whole) scope args) (arguments_of gadgets (reading_of words left) scope args) (arguments_of gadgets (reading_of words right) scope args)
     arguments_add gadgets scope in_out no_args linear = no_runs
     arguments_add gadgets scope in_out (arg_on arg more) linear = run_on (argument_adds gadgets scope in_out arg linear.0) (arguments_add gadgets scope in_out more linear.1)
 
     argument_adds : (gadgets : List Declaration) (scope : Scope) (in_out : Bool) (arg : Argument) → ArgumentIsLinear in_out arg
-        → RunsAdd WordsAdd (argument_of gadgets (read words whole) scope arg) (argument_of gadgets (read words left) scope arg) (argument_of gadgets (read words right) scope arg)
+        → RunsAdd WordsAdd (argument_of gadgets (reading_of words whole) scope arg) (argument_of gadgets (reading_of words left) scope arg) (argument_of gadgets (reading_of words right) scope arg)
     argument_adds gadgets scope in_out (one expr) linear =
         input_adds _ _ _
         (counted_adds (is_shared expr) _ _ _ (λ h. tree_adds gadgets scope in_out expr linear h) (λ h. all_public gadgets scope expr h))
     argument_adds gadgets scope in_out (each_arg at name from to inner) linear =
         listed_adds
         (each_turn_adds WordsAdd
-        (λ turn. listed (arguments_of gadgets (read words whole) (inside scope name turn) inner))
-        (λ turn. listed (arguments_of gadgets (read words left) (inside scope name turn) inner))
-        (λ turn. listed (arguments_of gadgets (read words right) (inside scope name turn) inner))
+        (λ turn. concatenation (arguments_of gadgets (reading_of words whole) (inside scope name turn) inner))
+        (λ turn. concatenation (arguments_of gadgets (reading_of words left) (inside scope name turn) inner))
+        (λ turn. concatenation (arguments_of gadgets (reading_of words right) (inside scope name turn) inner))
         (turns (index_value scope from) (index_value scope to))
         (λ turn. listed_adds (arguments_add gadgets (inside scope name turn) in_out inner linear)))
 
@@ -340,7 +338,7 @@ module _ (words : List ℕ) (whole left right : Share) (sums : ShareIsSum whole 
     unfolding RunsAdd
 
     statement_adds : (gadgets : List Declaration) (scope : Scope) (stmt : Statement) → StatementIsLinear stmt
-        → RunsAdd ResultsAdd (statement_of gadgets (read words whole) scope stmt) (statement_of gadgets (read words left) scope stmt) (statement_of gadgets (read words right) scope stmt)
+        → RunsAdd ResultsAdd (statement_of gadgets (reading_of words whole) scope stmt) (statement_of gadgets (reading_of words left) scope stmt) (statement_of gadgets (reading_of words right) scope stmt)
     statement_adds gadgets scope (check at expr) linear =
         check_adds _ _ _
         (counted_adds (is_shared expr) _ _ _ (λ h. tree_adds gadgets scope false expr linear h) (λ h. all_public gadgets scope expr h))
@@ -348,27 +346,26 @@ module _ (words : List ℕ) (whole left right : Share) (sums : ShareIsSum whole 
     statement_adds gadgets scope (each at name from to inner) linear =
         performed_adds
         (each_turn_adds ResultsAdd
-        (λ turn. performed (statements_of gadgets (read words whole) (inside scope name turn) inner))
-        (λ turn. performed (statements_of gadgets (read words left) (inside scope name turn) inner))
-        (λ turn. performed (statements_of gadgets (read words right) (inside scope name turn) inner))
+        (λ turn. all_results (statements_of gadgets (reading_of words whole) (inside scope name turn) inner))
+        (λ turn. all_results (statements_of gadgets (reading_of words left) (inside scope name turn) inner))
+        (λ turn. all_results (statements_of gadgets (reading_of words right) (inside scope name turn) inner))
         (turns (index_value scope from) (index_value scope to))
         (λ turn. performed_adds (statements_add gadgets (inside scope name turn) inner linear)))
 
     statements_add : (gadgets : List Declaration) (scope : Scope) (stmts : Statements) → StatementsAreLinear stmts
-        → EachAdd ResultsAdd (statements_of gadgets (read words whole) scope stmts) (statements_of gadgets (read words left) scope stmts) (statements_of gadgets (read words right) scope stmts)
+        → EachAdd ResultsAdd (statements_of gadgets (reading_of words whole) scope stmts) (statements_of gadgets (reading_of words left) scope stmts) (statements_of gadgets (reading_of words right) scope stmts)
     statements_add gadgets scope no_stmts linear = no_runs
     statements_add gadgets scope (stmt_on stmt more) linear = run_on (statement_adds gadgets scope stmt linear.0) (statements_add gadgets scope more linear.1)
 
 -- ---- whole circuits
 
 pub circuit_adds : (body : Program) (words : List ℕ) (whole left right : Share) → IsLinear body → ShareIsSum whole left right
-    → WordsAdd (checks_of body (read words whole)) (checks_of body (read words left)) (checks_of body (read words right))
-    × CallsAdd (calls_of body (read words whole)) (calls_of body (read words left)) (calls_of body (read words right))
-    × WordsAdd (circuit_of body (read words whole)).value.outs (circuit_of body (read words left)).value.outs (circuit_of body (read words right)).value.outs
+    → WordsAdd (checks_of body (reading_of words whole)) (checks_of body (reading_of words left)) (checks_of body (reading_of words right))
+    × CallsAdd (calls_of body (reading_of words whole)) (calls_of body (reading_of words left)) (calls_of body (reading_of words right))
 unfolding RunsAdd ResultsAdd
 circuit_adds body words whole left right linear sums =
     let all = performed_adds words whole left right sums (statements_add words whole left right sums body.gadgets [] body.stmts linear) 0 in
-    (all.0.0, all.1, all.0.1)
+    (all.0.0, all.1)
 
 first_or_more : (a b c : ℕ) (xs ys zs : List ℕ) → a ≡ word_sum b c → IsSumOf xs ys zs → (k : ℕ)
     → slice_index (a ∷ xs) k ≡ word_sum (slice_index (b ∷ ys) k) (slice_index (c ∷ zs) k)
@@ -378,21 +375,6 @@ first_or_more a b c xs ys zs e more (suc k) = more k
 pub is_sum-words : {a b c : List ℕ} → WordsAdd a b c → IsSumOf a b c
 is_sum-words no_words = λ k. refl
 is_sum-words (word_on e more) = λ k. first_or_more _ _ _ _ _ _ e (is_sum-words more) k
-
-pub checks_add_up : ChecksAddUp
-checks_add_up body words whole left right linear sums = is_sum-words (circuit_adds body words whole left right linear sums).0
-
-inputs-calls : {a b c : List Call} → CallsAdd a b c → (place : ℕ)
-    → IsSumOf
-    (get_or (map (λ (call : Call). call.inputs) a) place [])
-    (get_or (map (λ (call : Call). call.inputs) b) place [])
-    (get_or (map (λ (call : Call). call.inputs) c) place [])
-inputs-calls no_calls place = λ k. refl
-inputs-calls (call_on e f i more) zero = is_sum-words i
-inputs-calls (call_on e f i more) (suc place) = inputs-calls more place
-
-pub inputs_add_up : InputsAddUp
-inputs_add_up body words whole left right place linear sums = inputs-calls (circuit_adds body words whole left right linear sums).1 place
 
 keep_or_drop : (test : Bool) {a b c : Call} {as' bs' cs' : List Call} → a.gadget ≡ b.gadget → a.gadget ≡ c.gadget → WordsAdd a.inputs b.inputs c.inputs
     → CallsAdd as' bs' cs' → CallsAdd (cond test (a ∷ as') as') (cond test (b ∷ bs') bs') (cond test (c ∷ cs') cs')
@@ -411,7 +393,3 @@ calls_to-adds gadget (call_on {a = a} {b = b} {c = c} {xs = as'} {ys = bs'} {zs 
 pub inputs_at-adds : (input : ℕ) {a b c : List Call} → CallsAdd a b c → WordsAdd (inputs_at input a) (inputs_at input b) (inputs_at input c)
 inputs_at-adds input no_calls = no_words
 inputs_at-adds input (call_on e f i more) = word_on (is_sum-words i input) (inputs_at-adds input more)
-
-pub wire_inputs_add_up : WireInputsAddUp
-wire_inputs_add_up body words whole left right gadget input linear sums =
-    is_sum-words (inputs_at-adds input (calls_to-adds gadget (circuit_adds body words whole left right linear sums).1))

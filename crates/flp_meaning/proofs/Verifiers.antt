@@ -9,6 +9,7 @@ use Rattle.std.proofs.lemmas.List.Sums.{sum_by-cons}
 use Rattle.flp_field.specs.Word.{modulus, word_sum, word_power, word_product}
 use Rattle.flp_field.specs.Domain.{alpha}
 use Rattle.flp_field.specs.Sums.{sum_at, sum_of_lists}
+use Rattle.flp_field.proofs.ListSums.{length-sum_of_lists}
 use Rattle.flp_field.proofs.Congruence.{same_add, same_mod, mod_word}
 use Rattle.flp_poly.specs.Polynomial.{value_at}
 use Rattle.flp_poly.specs.Interpolation.{interpolated, inverse_root, inverse_size}
@@ -18,12 +19,12 @@ use Rattle.flp_meaning.specs.Meaning.{Call}
 use Rattle.flp_meaning.specs.Circuit.{calls_of, checks_of}
 use Rattle.flp_meaning.specs.Gadgets.{gadgets_of, arity_of, size_of, calls_to, call_count, call_gadget, call_number, check_count}
 use Rattle.flp_meaning.specs.Lengths.{start_of, coefficient_count, proof_part, verifier_part, lengths_of}
-use Rattle.flp_meaning.specs.Wires.{filled, inputs_at, wire_values, wires_of}
-use Rattle.flp_meaning.specs.Proof.{words_at, seeds_in, polynomial_in, answer_in, answers_in, proved}
-use Rattle.flp_meaning.specs.Verifier.{point_of, combined, check_of, verifier_of}
-use Rattle.flp_meaning.specs.Linear.{IsLinear}
-use Rattle.flp_meaning.specs.LinearLaws.{IsSumOf, Share, ShareIsSum, ReportShare, ReportIsSum, verifier_on, VerifiersAddUp, VerifiersHaveLength, sum_of_shares, HasSize, VerifiersSumUp}
-use Rattle.flp_meaning.proofs.Sums.{Adds, WordsAdd, no_words, word_on, CallsAdd, words-append, circuit_adds, is_sum-words, calls_to-adds, inputs_at-adds, adds-sum, adds-scaled, adds-word, word-adds}
+use Rattle.flp_meaning.specs.Wires.{with_zeros, inputs_at, wire_values, wires_of}
+use Rattle.flp_meaning.specs.Proof.{words_at, seeds_in, polynomial_in, answer_in, answers_in, with_proof}
+use Rattle.flp_meaning.specs.Verifier.{point_of, combination, check_of, verifier_of}
+use Rattle.flp_syntax.specs.Linear.{IsLinear}
+use Rattle.flp_meaning.specs.LinearLaws.{ReportShare, verifier_on, VerifiersHaveLength, sum_of_shares, HasSize, VerifiersSumUp}
+use Rattle.flp_meaning.proofs.Sums.{IsSumOf, Share, ShareIsSum, Adds, WordsAdd, no_words, word_on, CallsAdd, words-append, circuit_adds, is_sum-words, calls_to-adds, inputs_at-adds, adds-sum, adds-scaled, adds-word, word-adds}
 use Rattle.flp_meaning.proofs.PartLemmas.{length-parts}
 
 -- ---- words of sums
@@ -137,6 +138,11 @@ interpolated-adds n p q r np nq nr sum =
 
 -- ---- a query on three shares
 
+record ReportIsSum (whole one two : ReportShare) : Type 0 where
+  words : IsSumOf whole.x one.x two.x
+  proofs : IsSumOf whole.proof one.proof two.proof
+  unit : whole.unit ≡ word_sum one.unit two.unit
+
 module _ (body : Program) (words query : List ℕ) (whole left right : ReportShare) (linear : IsLinear body) (sums : ReportIsSum whole left right) where
   read_by : ReportShare → Share
   read_by share = record { x = share.x; unit = share.unit; answers = answers_in body share.proof }
@@ -160,16 +166,16 @@ module _ (body : Program) (words query : List ℕ) (whole left right : ReportSha
   }
 
   calls_in : ReportShare → List Call
-  calls_in share = calls_of body (proved body share.x words share.proof share.unit)
+  calls_in share = calls_of body (with_proof body share.x words share.proof share.unit)
 
   circuits_add : WordsAdd
-      (checks_of body (proved body whole.x words whole.proof whole.unit))
-      (checks_of body (proved body left.x words left.proof left.unit))
-      (checks_of body (proved body right.x words right.proof right.unit))
+      (checks_of body (with_proof body whole.x words whole.proof whole.unit))
+      (checks_of body (with_proof body left.x words left.proof left.unit))
+      (checks_of body (with_proof body right.x words right.proof right.unit))
       × CallsAdd (calls_in whole) (calls_in left) (calls_in right)
   unfolding read_by calls_in
   circuits_add =
-      let all = circuit_adds body words (read_by whole) (read_by left) (read_by right) linear shares_add in (all.0, all.1)
+      circuit_adds body words (read_by whole) (read_by left) (read_by right) linear shares_add
 
   given : ReportShare → ℕ → ℕ → List ℕ
   given share gadget input = slice_index (seeds_in body share.proof gadget) input ∷ inputs_at input (calls_to gadget (calls_in share))
@@ -185,8 +191,8 @@ module _ (body : Program) (words query : List ℕ) (whole left right : ReportSha
   unfolding given wire
   wire_adds gadget input =
       let n : ℕ = size_of body gadget in
-      let long : (l : List ℕ) → length (filled n l) ≡ n = λ l. length-map-range_with_len (λ k. slice_index l k) 0 n in
-      interpolated-adds n (filled n (given whole gadget input)) (filled n (given left gadget input)) (filled n (given right gadget input))
+      let long : (l : List ℕ) → length (with_zeros n l) ≡ n = λ l. length-map-range_with_len (λ k. slice_index l k) 0 n in
+      interpolated-adds n (with_zeros n (given whole gadget input)) (with_zeros n (given left gadget input)) (with_zeros n (given right gadget input))
       (long (given whole gadget input)) (long (given left gadget input)) (long (given right gadget input))
       (sum-numbered (λ k. slice_index (given whole gadget input) k) (λ k. slice_index (given left gadget input) k) (λ k. slice_index (given right gadget input) k) n
       (λ k low. given_adds gadget input k))
@@ -219,7 +225,7 @@ module _ (body : Program) (words query : List ℕ) (whole left right : ReportSha
       (subst (λ l. WordsAdd (by_number whole gadget) l (verifier_part_of right gadget)) (sym (by_number-is left gadget))
       (subst (λ l. WordsAdd (by_number whole gadget) (by_number left gadget) l) (sym (by_number-is right gadget)) made))
 
-  combined-adds : {a b c : List ℕ} (q : List ℕ) → WordsAdd a b c → Adds (combined a q) (combined b q) (combined c q)
+  combined-adds : {a b c : List ℕ} (q : List ℕ) → WordsAdd a b c → Adds (combination a q) (combination b q) (combination c q)
   combined-adds q no_words = refl
   combined-adds q (word_on e more) =
       adds-sum _ _ _ _ _ _ (adds-scaled (slice_index q 0) _ _ _ (adds-word _ _ _ e)) (combined-adds (drop 1 q) more)
@@ -228,8 +234,8 @@ module _ (body : Program) (words query : List ℕ) (whole left right : ReportSha
   check-adds {a} {b} {c} h = either (nat_lt 1 (check_count body))
     where
       either : (test : Bool)
-          → (if test then combined a query % modulus else slice_index a 0)
-          ≡ word_sum (if test then combined b query % modulus else slice_index b 0) (if test then combined c query % modulus else slice_index c 0)
+          → (if test then combination a query % modulus else slice_index a 0)
+          ≡ word_sum (if test then combination b query % modulus else slice_index b 0) (if test then combination c query % modulus else slice_index c 0)
       either true = word-adds _ _ _ (combined-adds query h)
       either false = is_sum-words h 0
 
@@ -239,7 +245,9 @@ module _ (body : Program) (words query : List ℕ) (whole left right : ReportSha
       word_on (check-adds circuits_add.0)
       (words-flat_map (verifier_part_of whole) (verifier_part_of left) (verifier_part_of right) 0 (length body.gadgets) part_adds)
 
-pub verifiers_add_up : VerifiersAddUp
+-- the verifier of the sum of two shares is the sum of the verifiers
+verifiers_add_up : (body : Program) (joint query : List ℕ) (whole one two : ReportShare) → IsLinear body → ReportIsSum whole one two
+    → IsSumOf (verifier_on body joint query whole) (verifier_on body joint query one) (verifier_on body joint query two)
 verifiers_add_up body words query whole left right linear sums =
     is_sum-words (verifier_adds body words query whole left right linear sums)
 
@@ -250,22 +258,19 @@ verifiers_have_length body words query share =
     let long : length (flat_map (verifier_of body share.x words share.proof query share.unit) (gadgets_of body)) ≡ sum_by (verifier_part body) (gadgets_of body) =
     length-parts (verifier_of body share.x words share.proof query share.unit) (verifier_part body) 0 (length body.gadgets)
     (λ gadget low.
-    let wires : List (List ℕ) = wires_of body (calls_of body (proved body share.x words share.proof share.unit)) (seeds_in body share.proof gadget) gadget in
+    let wires : List (List ℕ) = wires_of body (calls_of body (with_proof body share.x words share.proof share.unit)) (seeds_in body share.proof gadget) gadget in
     length-append (map (λ wire. value_at wire (point_of body query gadget)) wires) _
     ∙ ap (λ k. k + 1)
     (length-map wires (λ wire. value_at wire (point_of body query gadget))
-    ∙ length-map-range_with_len (λ input. interpolated (wire_values body (calls_of body (proved body share.x words share.proof share.unit)) (seeds_in body share.proof gadget) gadget input)) 0 (arity_of body gadget))) in
+    ∙ length-map-range_with_len (λ input. interpolated (wire_values body (calls_of body (with_proof body share.x words share.proof share.unit)) (seeds_in body share.proof gadget) gadget input)) 0 (arity_of body gadget))) in
     omega arith
-
-length-sum : (n : ℕ) (lists : List (List ℕ)) → length (sum_of_lists n lists) ≡ n
-length-sum n lists = length-map-range_with_len (sum_at lists) 0 n
 
 -- the sum of no lists is 0
 sum-none : (n k : ℕ) → slice_index (sum_of_lists n []) k ≡ 0
 sum-none n k =
     ⊎_elim
     (λ (low : k < n). get_or-map-range_with_len (sum_at []) 0 n k k 0 low (omega arith))
-    (λ (high : n ≤ k). get_or_past (sum_of_lists n []) k 0 (subst (λ m. m ≤ k) (sym (length-sum n [])) high))
+    (λ (high : n ≤ k). get_or_past (sum_of_lists n []) k 0 (subst (λ m. m ≤ k) (sym (length-sum_of_lists n [])) high))
     (cases_lt k n)
 
 -- the sum of several lists is the first and the sum of the others
@@ -280,16 +285,16 @@ sum-first n first lists size k =
     ∙ ap (λ s. word_sum (slice_index first k) s) (sym (get_or-map-range_with_len (sum_at lists) 0 n k k 0 low (omega arith))))
     (λ (high : n ≤ k).
     sum-past (sum_of_lists n (first ∷ lists)) first (sum_of_lists n lists) k
-    (subst (λ m. m ≤ k) (sym (length-sum n (first ∷ lists))) high)
+    (subst (λ m. m ≤ k) (sym (length-sum_of_lists n (first ∷ lists))) high)
     (subst (λ m. m ≤ k) (sym size) high)
-    (subst (λ m. m ≤ k) (sym (length-sum n lists)) high))
+    (subst (λ m. m ≤ k) (sym (length-sum_of_lists n lists)) high))
     (cases_lt k n)
 
 -- a word that is twice itself is 0
 twice : (v : ℕ) → v ≡ word_sum v v → v ≡ 0
 twice v same = let below : v < modulus = subst (λ k. k < modulus) (sym same) (mod_word (v + v)) in omega arith
 
-pub verifiers-sum : (body : Program) (words query : List ℕ) (n m : ℕ) (shares : List ReportShare) → IsLinear body → All (HasSize n m) shares → (k : ℕ)
+verifiers-sum : (body : Program) (words query : List ℕ) (n m : ℕ) (shares : List ReportShare) → IsLinear body → All (HasSize n m) shares → (k : ℕ)
     → slice_index (verifier_on body words query (sum_of_shares n m shares)) k
     ≡ slice_index (sum_of_lists (lengths_of body).verifier (map (verifier_on body words query) shares)) k
 verifiers-sum body words query n m [] linear sizes k =
@@ -323,5 +328,5 @@ verifiers_sum_up body words query n m shares linear sizes =
     let whole : List ℕ = verifier_on body words query (sum_of_shares n m shares) in
     let parts : List (List ℕ) = map (verifier_on body words query) shares in
     ext_get_or 0 whole (sum_of_lists L parts)
-    (verifiers_have_length body words query (sum_of_shares n m shares) ∙ sym (length-sum L parts))
+    (verifiers_have_length body words query (sum_of_shares n m shares) ∙ sym (length-sum_of_lists L parts))
     (λ k low. verifiers-sum body words query n m shares linear sizes k)

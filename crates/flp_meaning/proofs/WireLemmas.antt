@@ -18,10 +18,10 @@ use Rattle.flp_syntax.specs.Tree.{Program}
 use Rattle.flp_meaning.specs.Meaning.{Call, Reading}
 use Rattle.flp_meaning.specs.Circuit.{calls_of, kind_of}
 use Rattle.flp_meaning.specs.Gadgets.{arity_of, calls_made, calls_to, call_count, call_gadget, call_number, log_of, size_of}
-use Rattle.flp_meaning.specs.Wires.{filled, inputs_at, wire_values, wires_of}
-use Rattle.flp_meaning.specs.ProofLaws.{IsBounded, DomainsHold, WiresRunThrough, IsNumbered}
+use Rattle.flp_meaning.specs.Wires.{with_zeros, inputs_at, wire_values, wires_of}
+use Rattle.flp_meaning.specs.ProofLaws.{IsBounded, DomainsHold, WiresRunThrough}
 use Rattle.flp_meaning.proofs.Fixed.{calls_are_fixed, gadgets_are_fixed}
-use Rattle.flp_meaning.proofs.CallLemmas.{calls_are_well, calls_are_numbered}
+use Rattle.flp_meaning.proofs.CallLemmas.{IsNumbered, calls_are_well, calls_are_numbered}
 use Rattle.flp_meaning.proofs.PowerLemmas.{least_power}
 use Rattle.flp_meaning.proofs.ValueLemmas.{value-same}
 
@@ -48,22 +48,22 @@ inputs-words body reading gadget input =
     (All-filter (λ (call : Call). eqb call.gadget gadget) (λ (call : Call). IsWord (slice_index call.inputs input)) (calls_of body reading)
     (λ k none low. slice-word (get_or (calls_of body reading) k none).inputs input (calls_are_well body reading k none low).words))
 
-filled-words : (size : ℕ) (xs : List ℕ) → AreWords xs → AreWords (filled size xs)
+filled-words : (size : ℕ) (xs : List ℕ) → AreWords xs → AreWords (with_zeros size xs)
 filled-words size xs words =
     All-map IsWord (λ k. slice_index xs k) (range_with_len 0 size) (λ k d low. slice-word xs (get_or (range_with_len 0 size) k d) words)
 
-pub length-filled : (size : ℕ) (xs : List ℕ) → length (filled size xs) ≡ size
-length-filled size xs = length-map-range_with_len (λ k. slice_index xs k) 0 size
+pub length-with_zeros : (size : ℕ) (xs : List ℕ) → length (with_zeros size xs) ≡ size
+length-with_zeros size xs = length-map-range_with_len (λ k. slice_index xs k) 0 size
 
 pub length-wire_values : (body : Program) (calls : List Call) (seeds : List ℕ) (gadget input : ℕ) → length (wire_values body calls seeds gadget input) ≡ size_of body gadget
-length-wire_values body calls seeds gadget input = length-filled (size_of body gadget) (slice_index seeds input ∷ inputs_at input (calls_to gadget calls))
+length-wire_values body calls seeds gadget input = length-with_zeros (size_of body gadget) (slice_index seeds input ∷ inputs_at input (calls_to gadget calls))
 
 pub wires_run_through : WiresRunThrough
 wires_run_through body reading seeds gadget input point bounded inside words low =
     let given : List ℕ = slice_index seeds input ∷ inputs_at input (calls_to gadget (calls_of body reading)) in
     let values : List ℕ = wire_values body (calls_of body reading) seeds gadget input in
     let size : ℕ = size_of body gadget in
-    let count : length values ≡ size = length-filled size given in
+    let count : length values ≡ size = length-with_zeros size given in
     let are_words : AreWords values =
     filled-words size given (All-cons IsWord (slice_index seeds input) _ (slice-word seeds input words) (inputs-words body reading gadget input)) in
     let small : log_of body gadget ≤ 12 = (domains_hold body gadget bounded inside).0 in

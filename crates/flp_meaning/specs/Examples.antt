@@ -1,7 +1,7 @@
 -- Worked examples, against which the definitions were read. Names of gadgets and loops are their bytes, and token numbers are left at 0.
 use Rattle.std.specs.Prelude.{ℕ, ◌≡◌, true, false, List, [], ◌∷◌}
 use Rattle.flp_syntax.specs.Tree.{Index, index_number, index_var, index_add, index_mul, index_items, indices, Tree, number, joint, meas, meas_or_zero, sum, call, add, mul, pow, items, trees, Argument, one, each_arg, arguments, check, out, each, statements, mul_kind, psum_kind, Kind, Statement, Program}
-use Rattle.flp_meaning.specs.Circuit.{checks_of, outs_of, inputs_of_call, direct, answered}
+use Rattle.flp_meaning.specs.Circuit.{checks_of, outs_of, inputs_of_call, direct, with_answers}
 use Rattle.flp_meaning.specs.Lengths.{lengths_of}
 use Rattle.flp_meaning.specs.Terms.{term_count, wire_count}
 use Rattle.flp_meaning.specs.Proof.{honest_proof}
@@ -80,7 +80,7 @@ pub record CubeExample : Type 0 where
       lengths_of cube_circuit
       ≡ record { meas = 1; joint = 0; prove = 2; query = 1; proof = 9; verifier = 4; outs = 1 }
   -- the inner call comes first, and its answer is an input of the outer one
-  pub inputs : inputs_of_call cube_circuit (answered (5 ∷ []) [] 1 (7 ∷ 0 ∷ [])) 1 ≡ 7 ∷ 5 ∷ []
+  pub inputs : inputs_of_call cube_circuit (with_answers (5 ∷ []) [] 1 (7 ∷ 0 ∷ [])) 1 ≡ 7 ∷ 5 ∷ []
 
 -- ---- a public constant on half a share: `check g(meas[0], meas[0]) + 3; out meas[0];`
 
@@ -91,7 +91,7 @@ three_circuit =
 
 abbrev pub HalfExample : Type 0
 HalfExample =
-    checks_of three_circuit (answered (0 ∷ []) [] 9223372034707292161 (4 ∷ [])) ≡ 9223372034707292166 ∷ []
+    checks_of three_circuit (with_answers (0 ∷ []) [] 9223372034707292161 (4 ∷ [])) ≡ 9223372034707292166 ∷ []
 
 -- ---- a histogram of four buckets in chunks of two:
 -- check sum c in 0..2 ( g( each j in 0..2 ( joint[c]^(j + 1) * meas?[c * 2 + j], meas?[c * 2 + j] - 1 ) ) );

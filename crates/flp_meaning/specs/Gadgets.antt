@@ -18,10 +18,10 @@ abbrev pub gadgets_of : Program → List ℕ
 gadgets_of body = range_with_len 0 (length body.gadgets)
 
 abbrev pub arity_of : Program → ℕ → ℕ
-arity_of body gadget = tree.arity_of (kind_of body gadget)
+arity_of body gadget = tree.kind_arity (kind_of body gadget)
 
 abbrev pub degree_of : Program → ℕ → ℕ
-degree_of body gadget = tree.degree_of (kind_of body gadget)
+degree_of body gadget = tree.kind_degree (kind_of body gadget)
 
 -- ---- calls
 

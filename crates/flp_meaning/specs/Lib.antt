@@ -17,8 +17,7 @@ pub mod Proof
 pub mod Verifier
 -- the laws of what circuits mean
 pub mod MeaningLaws
--- circuits that are linear in shared values, and what that gives for sums
-pub mod Linear
+-- the laws of linear circuits
 pub mod LinearLaws
 -- the laws of proofs
 pub mod ProofLaws

@@ -28,8 +28,8 @@ abbrev pub plain : {A : Type 0} → A → Run A
 plain value made = record { value = value; calls = [] }
 
 -- the same calls, and a value made of the value
-abbrev pub changed : {A B : Type 0} → (A → B) → Run A → Run B
-changed change part made = record { value = change (part made).value; calls = (part made).calls }
+abbrev pub map_run : {A B : Type 0} → (A → B) → Run A → Run B
+map_run change part made = record { value = change (part made).value; calls = (part made).calls }
 
 -- one part and then another, their values joined
 abbrev pub then_run : {A B C : Type 0} → (A → B → C) → Run A → Run B → Run C
@@ -51,8 +51,8 @@ total = in_turn (λ a b. a + b) 0
 abbrev pub product : List (Run ℕ) → Run ℕ
 product = in_turn (λ a b. a * b) 1
 
-abbrev pub listed : List (Run (List ℕ)) → Run (List ℕ)
-listed = in_turn (λ xs ys. xs ++ ys) []
+abbrev pub concatenation : List (Run (List ℕ)) → Run (List ℕ)
+concatenation = in_turn (λ xs ys. xs ++ ys) []
 
 -- ---- readings
 
@@ -65,8 +65,8 @@ pub record Reading : Type 0 where
   pub answer : ℕ → Call → ℕ
 
 -- a call comes behind the calls in its arguments
-abbrev pub called : Reading → ℕ → Run (List ℕ) → Run ℕ
-called reading gadget arguments made =
+abbrev pub call_run : Reading → ℕ → Run (List ℕ) → Run ℕ
+call_run reading gadget arguments made =
     record {
       value =
           reading.answer (made + length (arguments made).calls) (record { gadget = gadget; inputs = (arguments made).value });
@@ -74,12 +74,12 @@ called reading gadget arguments made =
     }
 
 -- a public expression counts `unit` times its value where it stands for a shared one
-abbrev pub counted : Reading → Bool → Run ℕ → Run ℕ
-counted reading shared part = if shared then part else changed (λ value. reading.unit * value) part
+abbrev pub in_units : Reading → Bool → Run ℕ → Run ℕ
+in_units reading shared part = if shared then part else map_run (λ value. reading.unit * value) part
 
 -- the negation of a number is p - 1 times it
-abbrev pub signed : Bool → ℕ → ℕ
-signed minus value = if minus then (modulus - 1) * value else value
+abbrev pub value_with_sign : Bool → ℕ → ℕ
+value_with_sign minus value = if minus then (modulus - 1) * value else value
 
 -- ---- expressions
 
@@ -96,20 +96,20 @@ abbrev mutual
       (λ turn. meaning gadgets reading (inside scope name turn) inner)
       (turns (index_value scope from) (index_value scope to)))
   meaning gadgets reading scope (call at name args) =
-      called reading (unwrap_or (gadget_number gadgets name) 0) (listed (arguments_of gadgets reading scope args))
+      call_run reading (unwrap_or (gadget_number gadgets name) 0) (concatenation (arguments_of gadgets reading scope args))
   meaning gadgets reading scope (add at items) = total (items_of gadgets reading scope (has_shared_item items) items)
   meaning gadgets reading scope (mul at factors) = product (factors_of gadgets reading scope factors)
   meaning gadgets reading scope (pow at base exponent) =
-      changed (λ value. value ^ index_value scope exponent) (meaning gadgets reading scope base)
+      map_run (λ value. value ^ index_value scope exponent) (meaning gadgets reading scope base)
 
   -- the items of a sum; its public items count `unit` times where some item is shared
   pub items_of : List Declaration → Reading → Scope → Bool → Items → List (Run ℕ)
   items_of gadgets reading scope mixed no_items = []
   items_of gadgets reading scope mixed (item_on minus expr more) =
-      changed
-      (signed minus)
+      map_run
+      (value_with_sign minus)
       (if mixed
-      then counted reading (is_shared expr) (meaning gadgets reading scope expr)
+      then in_units reading (is_shared expr) (meaning gadgets reading scope expr)
       else meaning gadgets reading scope expr)
       ∷ items_of gadgets reading scope mixed more
 
@@ -122,13 +122,13 @@ abbrev mutual
   -- the inputs that an argument lists: its word, or those of the turns of a loop
   pub argument_of : List Declaration → Reading → Scope → Argument → Run (List ℕ)
   argument_of gadgets reading scope (one expr) =
-      changed
+      map_run
       (λ value. value % modulus ∷ [])
-      (counted reading (is_shared expr) (meaning gadgets reading scope expr))
+      (in_units reading (is_shared expr) (meaning gadgets reading scope expr))
   argument_of gadgets reading scope (each_arg at name from to inner) =
-      listed
+      concatenation
       (map
-      (λ turn. listed (arguments_of gadgets reading (inside scope name turn) inner))
+      (λ turn. concatenation (arguments_of gadgets reading (inside scope name turn) inner))
       (turns (index_value scope from) (index_value scope to)))
 
   pub arguments_of : List Declaration → Reading → Scope → Arguments → List (Run (List ℕ))
@@ -155,18 +155,18 @@ one_check value = record { checks = value % modulus ∷ []; outs = [] }
 abbrev pub one_out : ℕ → Results
 one_out value = record { checks = []; outs = value % modulus ∷ [] }
 
-abbrev pub performed : List (Run Results) → Run Results
-performed = in_turn join_results no_results
+abbrev pub all_results : List (Run Results) → Run Results
+all_results = in_turn join_results no_results
 
 abbrev mutual
   pub statement_of : List Declaration → Reading → Scope → Statement → Run Results
   statement_of gadgets reading scope (check at expr) =
-      changed one_check (counted reading (is_shared expr) (meaning gadgets reading scope expr))
-  statement_of gadgets reading scope (out at expr) = changed one_out (meaning gadgets reading scope expr)
+      map_run one_check (in_units reading (is_shared expr) (meaning gadgets reading scope expr))
+  statement_of gadgets reading scope (out at expr) = map_run one_out (meaning gadgets reading scope expr)
   statement_of gadgets reading scope (each at name from to inner) =
-      performed
+      all_results
       (map
-      (λ turn. performed (statements_of gadgets reading (inside scope name turn) inner))
+      (λ turn. all_results (statements_of gadgets reading (inside scope name turn) inner))
       (turns (index_value scope from) (index_value scope to)))
 
   pub statements_of : List Declaration → Reading → Scope → Statements → List (Run Results)

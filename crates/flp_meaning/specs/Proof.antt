@@ -8,7 +8,7 @@ use Rattle.flp_poly.specs.Polynomial.{value_at}
 use Rattle.flp_gadget.specs.KindTree.{formula_of}
 use Rattle.flp_syntax.specs.Tree.{Program}
 use Rattle.flp_meaning.specs.Meaning.{Reading}
-use Rattle.flp_meaning.specs.Circuit.{kind_of, calls_of, direct, answered}
+use Rattle.flp_meaning.specs.Circuit.{kind_of, calls_of, direct, with_answers}
 use Rattle.flp_meaning.specs.Gadgets.{gadgets_of, arity_of, size_of, call_count, call_gadget, call_number}
 use Rattle.flp_meaning.specs.Lengths.{start_of, coefficient_count, proof_part}
 use Rattle.flp_meaning.specs.Wires.{wires_of}
@@ -55,13 +55,13 @@ abbrev pub answers_in : Program → List ℕ → List ℕ
 answers_in body proof = map (answer_in body proof) (range_with_len 0 (call_count body))
 
 -- the circuit, read with the answers of a proof
-abbrev pub proved : Program → (x joint proof : List ℕ) → (unit : ℕ) → Reading
-proved body x joint proof unit = answered x joint unit (answers_in body proof)
+abbrev pub with_proof : Program → (x joint proof : List ℕ) → (unit : ℕ) → Reading
+with_proof body x joint proof unit = with_answers x joint unit (answers_in body proof)
 
 -- the wires of a gadget, where a proof answers the calls and has the seeds
 abbrev pub wires_in : Program → (x joint proof : List ℕ) → (unit gadget : ℕ) → List (List ℕ)
 wires_in body x joint proof unit gadget =
-    wires_of body (calls_of body (proved body x joint proof unit)) (seeds_in body proof gadget) gadget
+    wires_of body (calls_of body (with_proof body x joint proof unit)) (seeds_in body proof gadget) gadget
 
 -- the gadget's formula at these wires
 abbrev pub formula_in : Program → (x joint proof : List ℕ) → (unit gadget : ℕ) → List ℕ

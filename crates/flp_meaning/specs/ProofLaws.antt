@@ -1,18 +1,18 @@
 -- The laws of proofs, from the numbers of calls and the sizes of domains up to the honest proof, which is accepted.
-use Rattle.std.specs.Prelude.{ℕ, ◌≡◌, ◌+◌, ◌-◌, ◌^◌, ◌<◌, ◌≤◌, ◌↔◌, Bool, true, false, List, ◌∷◌, length, get_or, slice_index, Option, None, Some}
+use Rattle.std.specs.Prelude.{ℕ, ◌≡◌, ◌+◌, ◌^◌, ◌<◌, ◌≤◌, ◌↔◌, Bool, true, false, List, ◌∷◌, length, slice_index, Option, None, Some}
 use Rattle.flp_field.specs.Word.{AreWords, word_power}
 use Rattle.flp_field.specs.Domain.{alpha}
 use Rattle.flp_poly.specs.Polynomial.{value_at}
 use Rattle.flp_poly.specs.Interpolation.{interpolated}
 use Rattle.flp_gadget.specs.KindTree.{formula_of, IsKind}
 use Rattle.flp_syntax.specs.Tree.{Program}
-use Rattle.flp_meaning.specs.Meaning.{Call, Reading}
+use Rattle.flp_meaning.specs.Meaning.{Reading}
 use Rattle.flp_meaning.specs.Circuit.{circuit_of, checks_of, calls_of, kind_of, direct, IsValid}
-use Rattle.flp_meaning.specs.Gadgets.{first_where, ceil_log, call_count, calls_made, call_gadget, call_number, calls_to, log_of, size_of}
+use Rattle.flp_meaning.specs.Gadgets.{first_where, ceil_log, calls_made, calls_to, log_of, size_of}
 use Rattle.flp_meaning.specs.Lengths.{lengths_of}
 use Rattle.flp_meaning.specs.MeaningLaws.{call_values}
 use Rattle.flp_meaning.specs.Wires.{inputs_at, wire_values, wires_of}
-use Rattle.flp_meaning.specs.Proof.{seeds_in, polynomial_in, seeds_for, honest_proof, answers_in, proved, formula_in, IsTrueOf}
+use Rattle.flp_meaning.specs.Proof.{seeds_in, polynomial_in, seeds_for, honest_proof, answers_in, with_proof, formula_in, IsTrueOf}
 use Rattle.flp_meaning.specs.Verifier.{gadget_in_domain, accepts, point_of, check_of, verifier_words, decides}
 
 -- the first of so many numbers from `start` on that passes a test, or that none does
@@ -27,20 +27,6 @@ FirstIsFound = (test : ℕ → Bool) (start count : ℕ) → IsFirst test start 
 -- the power of two is at least the number, and no smaller one is
 abbrev pub LeastPower : Type 0
 LeastPower = (n : ℕ) → (n ≤ 2 ^ ceil_log n) × ((log : ℕ) → n ≤ 2 ^ log → ceil_log n ≤ log)
-
--- the call with this number among all is the call with its number among those of its gadget
-pub record IsNumbered (body : Program) (reading : Reading) (place : ℕ) (none : Call) : Type 0 where
-  pub from_one : 1 ≤ call_number body place
-  pub up_to_all : call_number body place ≤ calls_made body (call_gadget body place)
-  pub same_gadget : (get_or (calls_of body reading) place none).gadget ≡ call_gadget body place
-  pub same_call :
-      get_or (calls_to (call_gadget body place) (calls_of body reading)) (call_number body place - 1) none
-      ≡ get_or (calls_of body reading) place none
-
-abbrev pub CallsAreNumbered : Type 0
-CallsAreNumbered =
-    (body : Program) (reading : Reading) (place : ℕ) (none : Call) → place < call_count body
-    → IsNumbered body reading place none
 
 -- ---- circuits within the limits
 
@@ -99,7 +85,7 @@ HonestProofAnswers =
 abbrev pub HonestProofProves : Type 0
 HonestProofProves =
     (body : Program) (x joint seeds : List ℕ) → IsBounded body → AreSeeds body seeds
-    → circuit_of body (proved body x joint (honest_proof body x joint seeds) 1) ≡ circuit_of body (direct body x joint)
+    → circuit_of body (with_proof body x joint (honest_proof body x joint seeds) 1) ≡ circuit_of body (direct body x joint)
 
 -- the honest proof of a valid encoding is accepted by each query with no point in a domain
 abbrev pub HonestProofIsAccepted : Type 0
@@ -111,7 +97,7 @@ HonestProofIsAccepted =
 
 -- the verifier of a proof is taken where its check is 0 and, at the point of each gadget, the formula at the wires has the value of the proof's polynomial
 pub record Holds (body : Program) (x joint proof query : List ℕ) (unit : ℕ) : Type 0 where
-  pub check : check_of body (checks_of body (proved body x joint proof unit)) query ≡ 0
+  pub check : check_of body (checks_of body (with_proof body x joint proof unit)) query ≡ 0
   pub gadgets :
       (gadget : ℕ) → gadget < length body.gadgets
       → value_at (formula_in body x joint proof unit gadget) (point_of body query gadget)
@@ -128,4 +114,4 @@ abbrev pub TrueProofsAreDirect : Type 0
 TrueProofsAreDirect =
     (body : Program) (x joint proof : List ℕ) → IsBounded body → AreWords proof
     → ((gadget : ℕ) → gadget < length body.gadgets → IsTrueOf body x joint proof gadget)
-    → circuit_of body (proved body x joint proof 1) ≡ circuit_of body (direct body x joint)
+    → circuit_of body (with_proof body x joint proof 1) ≡ circuit_of body (direct body x joint)

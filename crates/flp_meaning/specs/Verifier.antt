@@ -9,7 +9,7 @@ use Rattle.flp_meaning.specs.Circuit.{kind_of, checks_of, calls_of}
 use Rattle.flp_meaning.specs.Gadgets.{first_where, gadgets_of, arity_of, size_of, check_count}
 use Rattle.flp_meaning.specs.Lengths.{start_of, check_words, verifier_part}
 use Rattle.flp_meaning.specs.Wires.{wires_of}
-use Rattle.flp_meaning.specs.Proof.{words_at, seeds_in, polynomial_in, proved}
+use Rattle.flp_meaning.specs.Proof.{words_at, seeds_in, polynomial_in, with_proof}
 
 -- ---- the query words: one for each check where there are several, and then a point for each gadget
 
@@ -17,14 +17,14 @@ abbrev pub point_of : Program → List ℕ → ℕ → ℕ
 point_of body query gadget = slice_index query (check_words body + gadget)
 
 -- the checks, each times its word
-abbrev pub combined : List ℕ → List ℕ → ℕ
-combined [] query = 0
-combined (value ∷ more) query = slice_index query 0 * value + combined more (drop 1 query)
+abbrev pub combination : List ℕ → List ℕ → ℕ
+combination [] query = 0
+combination (value ∷ more) query = slice_index query 0 * value + combination more (drop 1 query)
 
 -- the one check, or the sum of several, each times its word
 abbrev pub check_of : Program → (checks query : List ℕ) → ℕ
 check_of body checks query =
-    if nat_lt 1 (check_count body) then combined checks query % modulus else slice_index checks 0
+    if nat_lt 1 (check_count body) then combination checks query % modulus else slice_index checks 0
 
 -- the least gadget whose point lies in its domain
 abbrev pub gadget_in_domain : Program → List ℕ → Option ℕ
@@ -38,12 +38,12 @@ abbrev pub verifier_of : Program → (x joint proof query : List ℕ) → (unit 
 verifier_of body x joint proof query unit gadget =
     map
     (λ wire. value_at wire (point_of body query gadget))
-    (wires_of body (calls_of body (proved body x joint proof unit)) (seeds_in body proof gadget) gadget)
+    (wires_of body (calls_of body (with_proof body x joint proof unit)) (seeds_in body proof gadget) gadget)
     ++ value_at (polynomial_in body proof gadget) (point_of body query gadget) ∷ []
 
 abbrev pub verifier_words : Program → (x joint proof query : List ℕ) → (unit : ℕ) → List ℕ
 verifier_words body x joint proof query unit =
-    check_of body (checks_of body (proved body x joint proof unit)) query
+    check_of body (checks_of body (with_proof body x joint proof unit)) query
     ∷ flat_map (verifier_of body x joint proof query unit) (gadgets_of body)
 
 -- what a query answers: the gadget whose point lies in its domain, or the verifier

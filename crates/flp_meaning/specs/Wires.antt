@@ -8,8 +8,8 @@ use Rattle.flp_meaning.specs.Meaning.{Call}
 use Rattle.flp_meaning.specs.Gadgets.{arity_of, size_of, calls_to}
 
 -- so many words: those of the list, and 0 past its end
-abbrev pub filled : ℕ → List ℕ → List ℕ
-filled size words = map (λ k. slice_index words k) (range_with_len 0 size)
+abbrev pub with_zeros : ℕ → List ℕ → List ℕ
+with_zeros size words = map (λ k. slice_index words k) (range_with_len 0 size)
 
 -- an input of each call
 abbrev pub inputs_at : ℕ → List Call → List ℕ
@@ -18,7 +18,7 @@ inputs_at input calls = map (λ (call : Call). slice_index call.inputs input) ca
 -- the values of a wire of a gadget on its domain: the seed, the input of each call, and 0 at the points that are left
 abbrev pub wire_values : Program → List Call → List ℕ → ℕ → ℕ → List ℕ
 wire_values body calls seeds gadget input =
-    filled (size_of body gadget) (slice_index seeds input ∷ inputs_at input (calls_to gadget calls))
+    with_zeros (size_of body gadget) (slice_index seeds input ∷ inputs_at input (calls_to gadget calls))
 
 -- the wires of a gadget with these seeds, where these calls were made
 abbrev pub wires_of : Program → List Call → List ℕ → ℕ → List (List ℕ)

@@ -192,7 +192,7 @@ level_joined log r q low high sums turns x y h square size at_x at_y k below =
     ∙ ap (λ (i : ℕ). reversed (suc log) i) place)) (cases_lt k (2 ^ log))
 
 -- the square of a root with half a turn has one at half the size
-pub square_half_turn : (root log : ℕ) → HasHalfTurn root log → HasHalfTurn ((root * root) % modulus) (log - 1)
+square_half_turn : (root log : ℕ) → HasHalfTurn root log → HasHalfTurn ((root * root) % modulus) (log - 1)
 square_half_turn root log turn some =
     let less : suc (log - 1 - 1) ≡ log - 1 = omega arith in
     let double : 2 ^ (log - 1 - 1) + 2 ^ (log - 1 - 1) ≡ 2 ^ (log - 1) =
@@ -201,6 +201,11 @@ square_half_turn root log turn some =
     ∙ ap (λ (x : ℕ). x % modulus)
     (square-pow root (2 ^ (log - 1 - 1)) ∙ ap (λ (x : ℕ). root ^ x) double)
     ∙ turn (omega arith)
+
+pub square_has_turn : (root square log : ℕ) → square ≡ (root * root) % modulus → HasHalfTurn root log
+    → HasHalfTurn square (log - 1)
+square_has_turn root square log is turn some =
+    ap (λ (x : ℕ). x ^ (2 ^ (log - 1 - 1)) % modulus) is ∙ square_half_turn root log turn some
 
 -- ---- one butterfly
 

@@ -1,11 +1,17 @@
 -- The lemmas of the transforms.
 -- powers of two as sizes
-pub mod Sizes
+mod Sizes
 -- numbers with their binary digits in reverse
-pub mod Mirrors
+mod Mirrors
 -- a level of the fast transform
-pub mod Halves
+mod Halves
 -- the exchange of elements at mirrored places
-pub mod Exchanges
+mod Exchanges
 -- the transforms over a root and its inverse
-pub mod Transforms
+mod Transforms
+-- weights by levels
+mod WeightLevels
+-- a polynomial modulo x^P - 1
+mod FoldLemmas
+-- the value at a point by inverses
+mod FormulaLemmas

@@ -89,9 +89,6 @@ Carried log mirror level rest =
     (k : ℕ) → k + 1 < 2 ^ log → mirror ≡ reversed log k
     → (a : ℕ) × (a + 1 < 2 ^ level) × (rest ≡ reversed level a) × (reversed level (a + 1) ≡ reversed log (k + 1))
 
-pub carried_start : (log mirror : ℕ) → Carried log mirror log mirror
-carried_start log mirror k inside is = (k, inside, is, refl)
-
 pub carried_end : (log mirror level n rest digit : ℕ) → level ≡ suc n → digit ≡ 2 ^ n → rest < digit
     → Carried log mirror level rest → (k : ℕ) → k + 1 < 2 ^ log → mirror ≡ reversed log k
     → rest + digit ≡ reversed log (k + 1)

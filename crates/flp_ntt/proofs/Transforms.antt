@@ -1,5 +1,5 @@
 -- The transforms over the root of a size and over its inverse. From the roots up.
-use Rattle.std.proofs.Common.{ℕ, suc, ◌≡◌, ◌-◌, ◌*◌, ◌%◌, ◌^◌, ◌<◌, ◌≤◌, List, length, get_or, map, arith, ap, ap₂, sym, subst, ◌∙◌, refl}
+use Rattle.std.proofs.Common.{ℕ, suc, ◌≡◌, ◌-◌, ◌*◌, ◌%◌, ◌^◌, ◌<◌, ◌≤◌, List, length, get_or, map, arith, ap, sym, subst, ◌∙◌, refl}
 use Rattle.std.specs.List.{Contains}
 use Rattle.std.proofs.lemmas.List.{ext_get_or, get_or-map, length-map}
 use Rattle.flp_field.specs.Word.{modulus, AreWords, word_product}
@@ -71,11 +71,6 @@ pub interpolates_from : (log : ℕ) (old new : List ℕ) → log ≤ 20 → AreW
 interpolates_from log old new small words size is =
     let P : List ℕ → Type 0 = λ (l : List ℕ). Interpolates l old in
     subst P (sym is) (interpolation_exists log old (omega arith) words size)
-
--- the power of the root that the program takes
-pub inverse_root_is : (log n r q : ℕ) → n ≡ 2 ^ log → r ≡ alpha (2 ^ log) → q ≡ r ^ (n - 1) % modulus
-    → q ≡ inverse_root (2 ^ log)
-inverse_root_is log n r q size root power = power ∙ ap₂ (λ (x m : ℕ). x ^ (m - 1) % modulus) root size
 
 -- ---- points of the domain
 

@@ -2,3 +2,5 @@
 pub mod TransformSize
 -- what a level of the fast transform asks and leaves
 pub mod Levels
+-- the value at a point by inverses
+pub mod PointFormula

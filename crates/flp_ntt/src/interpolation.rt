@@ -5,9 +5,9 @@ ghost use Rattle.flp_poly.specs.Polynomial.{value_at};
 ghost use Rattle.flp_poly.specs.Interpolation.{Interpolates, interpolated};
 ghost use Rattle.flp_ntt.specs.TransformSize.{IsTransformSize};
 
+use crate::point_weights::weights;
 use crate::transform::inverse;
-use flp_field::Fe;
-use flp_poly::eval;
+use flp_field::{Fe, dot, laws};
 
 /// Writes to `out` the coefficients, lowest first, of the one polynomial with as many coefficients as
 /// there are values that has these values on the domain of their number.
@@ -28,7 +28,7 @@ pub fn interpolate(values: &[Fe], out: &mut [Fe])
 /// point is in the domain of that size.
 ///
 /// Both lengths are one power of two up to 1,048,576. `room` is working room, and holds anything
-/// afterwards.
+/// afterwards. The value is an inner product of the values and of weights, for which no inverse is taken.
 pub fn at_point(values: &[Fe], point: Fe, room: &mut [Fe]) -> Option<Fe>
     requires size { IsTransformSize (length values.now) }
     requires room { length room.old ≡ length values.now }
@@ -36,11 +36,11 @@ pub fn at_point(values: &[Fe], point: Fe, room: &mut [Fe]) -> Option<Fe>
     ensures value { IfSome result (λ value. value ≡ value_at (interpolated values.now) point) }
     ensures through { (coefficients : List ℕ) → Interpolates coefficients values.now → IfSome result (λ value. value ≡ value_at coefficients point) }
 {
-    // The proof reads from here that the point is a word.
+    // The proof reads from here that the point and the values are words.
     let _word = point.value();
-    if point.pow(values.len() as u64) == Fe::ONE {
+    laws::words(values);
+    if weights(point, room) == Fe::ONE {
         return None;
     }
-    interpolate(values, room);
-    Some(eval(room, point))
+    Some(dot(room, values))
 }

@@ -3,6 +3,7 @@ ghost use Rattle.std.specs.Prelude.{◌≡◌, ℕ, ◌^◌, ◌<◌, ◌≤◌,
 ghost use Rattle.flp_field.specs.Word.{word_product};
 ghost use Rattle.flp_poly.specs.Polynomial.{value_at, values_on};
 ghost use Rattle.flp_poly.specs.Interpolation.{Interpolates, interpolated, inverse_size};
+ghost use Rattle.flp_poly.specs.Interpolation as of_domain;
 ghost use Rattle.flp_ntt.specs.TransformSize.{IsTransformSize};
 ghost use Rattle.flp_ntt.specs.Levels.{HasHalfTurn};
 
@@ -36,13 +37,23 @@ pub fn inverse(values: &mut [Fe])
     // The proof reads from here that the values are words.
     laws::words(values);
     let log = log_of(values.len());
-    let inverse_root = Fe::root(log).pow(values.len() as u64 - 1);
-    transform(values, inverse_root, log);
+    transform(values, inverse_root(log), log);
     scale(values, inverse_of_size(values.len()));
 }
 
+/// The inverse of the root of unity of size 2^log.
+pub(crate) fn inverse_root(log: u32) -> Fe
+    requires { log ≤ 32 }
+    ensures { result ≡ of_domain.inverse_root (2 ^ log) }
+{
+    let root = Fe::inverse_root(log);
+    // The proof reads from here that it is a word: there is one inverse.
+    let _word = root.value();
+    root
+}
+
 /// The logarithm of a size: the size is the power of two with this exponent.
-fn log_of(size: usize) -> u32
+pub(crate) fn log_of(size: usize) -> u32
     requires { IsTransformSize size }
     ensures limit { result ≤ 20 }
     ensures power { size ≡ 2 ^ result }
@@ -72,7 +83,7 @@ fn scale(values: &mut [Fe], by: Fe)
 }
 
 /// The inverse of this size as a word: as the size divides p - 1, it is p - (p - 1) / size.
-fn inverse_of_size(size: usize) -> Fe
+pub(crate) fn inverse_of_size(size: usize) -> Fe
     requires { IsTransformSize size }
     ensures { result ≡ inverse_size size }
 {

@@ -1,11 +1,10 @@
 -- What compiling finds out of a checked circuit. From its gadgets up to its plan.
-use Rattle.std.proofs.Common.{◌≡◌, ℕ, zero, suc, ◌+◌, ◌<◌, ◌≤◌, Bool, true, false, List, [], ◌∷◌, ◌++◌, length, map, take, get_or, min, Option, Some, None, refl, sym, ◌∙◌, ap, subst, arith, nat_lt, if◌then◌else◌}
-use Rattle.std.specs.Prelude.{slice_index}
+use Rattle.std.proofs.Common.{◌≡◌, ℕ, zero, suc, ◌+◌, ◌<◌, ◌≤◌, Bool, true, false, List, [], ◌∷◌, ◌++◌, length, map, get_or, Option, Some, None, refl, sym, ◌∙◌, ap, subst, arith, nat_lt, if◌then◌else◌}
 use Rattle.std.specs.List.{slice_get}
 use Rattle.std.proofs.lemmas.List.{get_or-map}
-use Rattle.std.proofs.lemmas.Bool.{lt-ltb, ltb-true, cases_lt}
+use Rattle.std.proofs.lemmas.Bool.{lt-ltb, ltb-true}
 use Rattle.std.proofs.lemmas.Option.{slice_get-get_or}
-use Rattle.flp_gadget.specs.KindTree.{KindTree, Mul, IsKind}
+use Rattle.flp_gadget.specs.KindTree.{Mul, IsKind}
 use Rattle.flp_syntax.specs.declared.syntax.Body.{Body}
 use Rattle.flp_syntax.specs.declared.syntax.Decl.{Decl}
 use Rattle.flp_syntax.specs.Tree.{Declaration, Program}
@@ -14,7 +13,7 @@ use Rattle.flp_syntax.specs.View.{program_of, declaration_of}
 use Rattle.flp_check.specs.declared.passed.Checked.{Checked}
 use Rattle.flp_check.specs.Verdict.{Totals}
 use Rattle.flp_meaning.specs.Circuit.{kind_tree, kind_of}
-use Rattle.flp_meaning.specs.Gadgets.{gadgets_called, times, call_count, call_gadget, call_number, calls_made}
+use Rattle.flp_meaning.specs.Gadgets.{gadgets_called, call_count, call_gadget}
 use Rattle.flp_meaning.specs.Terms.{wire_count, term_count}
 use Rattle.flp_emit.specs.declared.code.CallForms.{CallForms}
 use Rattle.flp_emit.specs.declared.code.Code.{Code}
@@ -24,13 +23,13 @@ use Rattle.flp_plan.specs.declared.lengths.Lengths.{Lengths}
 use Rattle.flp_plan.specs.declared.fault.PlanFault.{PlanFault}
 use Rattle.flp_plan.specs.declared.fault.PlanFault.TheVariants.{Limit}
 use Rattle.flp_plan.specs.declared.fault.PlanCounted.TheVariants.{Wires, Terms}
-use Rattle.flp_plan.specs.Counted.{most, limit_fault, IsSmallCircuit, lengths_of}
+use Rattle.flp_plan.specs.Counted.{most, limit_fault, IsSmallCircuit, counted_lengths}
 use Rattle.flp_plan.specs.Limits.{GadgetIsWithin}
 use Rattle.flp_plan.specs.Numbers.{gadgets_in, AreNumbers}
 use Rattle.flp_plan.specs.Plan.{IsPlanOf}
 use Rattle.flp_plan.specs.Uses.{IsUse, AreUsesOf, UseIsSmall}
 use Rattle.flp_plan.proofs.FormLemmas.{mapped_length}
-use Rattle.flp_plan.proofs.PassedLemmas.{Passed, passed, passed_gadgets, passed_calls, passed_keeps, passed_limits, passed_gadget, passed_call}
+use Rattle.flp_plan.proofs.PassedLemmas.{Passed, passed, passed_keeps, passed_limits, passed_gadget, passed_call}
 use Rattle.flp_plan.proofs.TiedLemmas.{gadgets_called-code, call_count-code, call_gadget-code}
 
 -- ---- a checked circuit
@@ -148,7 +147,7 @@ calls_few checked code slice tied same small some =
 
 pub is_plan : (checked : Checked) (code : Code) (slice : List CallForms) (uses : List GadgetUse) (numbers : List ℕ) (lengths : Lengths)
     → Tied (program_of checked.body) code → slice ≡ code.calls → AreUsesOf (program_of checked.body) uses
-    → AreNumbers (gadgets_in slice) numbers → lengths ≡ lengths_of (program_of checked.body) → IsSmallCircuit (program_of checked.body)
+    → AreNumbers (gadgets_in slice) numbers → lengths ≡ counted_lengths (program_of checked.body) → IsSmallCircuit (program_of checked.body)
     → 1 ≤ length (program_of checked.body).gadgets → IsPlanOf (program_of checked.body) code uses numbers lengths
 is_plan checked code slice uses numbers lengths tied same are counted sizes small some =
     let body : Program = program_of checked.body in

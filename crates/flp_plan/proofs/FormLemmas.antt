@@ -1,13 +1,13 @@
 -- Values of forms that stand one after another. From one form up to a range of them.
-use Rattle.std.proofs.Common.{◌≡◌, ℕ, suc, ◌+◌, ◌-◌, ◌<◌, ◌≤◌, ◌%◌, List, [], ◌∷◌, length, map, take, drop, get_or, set, below_more, min, Some, refl, sym, ◌∙◌, ap, subst, arith}
+use Rattle.std.proofs.Common.{◌≡◌, ℕ, suc, ◌+◌, ◌-◌, ◌<◌, ◌≤◌, ◌%◌, List, [], ◌∷◌, length, map, take, drop, get_or, min, Some, refl, sym, ◌∙◌, ap, subst, arith}
 use Rattle.std.specs.List.{All, slice_get}
-use Rattle.std.proofs.lemmas.List.{get_or-take, get_or-drop, get_or-map, get_or-set_same, get_or-set_other, length-take, length-drop, same_lists}
-use Rattle.std.proofs.lemmas.Option.{slice_get-map, slice_get_within, get_or_from_slice_get, slice_get-get_or}
+use Rattle.std.proofs.lemmas.List.{get_or-take, get_or-drop, get_or-map, length-take, length-drop, same_lists}
+use Rattle.std.proofs.lemmas.Option.{slice_get_within, get_or_from_slice_get, slice_get-get_or}
 use Rattle.std.proofs.lemmas.Grind.{get_or_default_zero}
 use Rattle.flp_field.specs.Word.{modulus}
 use Rattle.flp_forms.specs.declared.term.Term.{Term}
-use Rattle.flp_forms.specs.LinearForms.{Share, form_value, TermFits}
-use Rattle.flp_emit.specs.Code.{FormFits, form_words}
+use Rattle.flp_forms.specs.LinearForms.{Share, form_value}
+use Rattle.flp_emit.specs.Code.{form_words}
 
 pub mapped_length : {X Y : Type 0} (f : X → Y) (xs : List X) → length (map f xs) ≡ length xs
 mapped_length f [] = refl

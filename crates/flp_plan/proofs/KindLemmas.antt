@@ -1,5 +1,5 @@
 -- The gadgets of a circuit within its limits are kinds. From one kind up to the gadgets of a circuit.
-use Rattle.std.proofs.Common.{◌≡◌, ℕ, zero, suc, ◌+◌, ◌-◌, ◌*◌, ◌<◌, ◌≤◌, List, [], ◌∷◌, ◌++◌, append_assoc, mul-le-mul, length, map, get_or, min, refl, sym, ◌∙◌, ap, subst, arith}
+use Rattle.std.proofs.Common.{◌≡◌, ℕ, zero, suc, ◌-◌, ◌*◌, ◌<◌, ◌≤◌, List, [], ◌∷◌, ◌++◌, append_assoc, mul-le-mul, length, map, get_or, refl, sym, ◌∙◌, ap, arith}
 use Rattle.std.proofs.lemmas.List.{get_or-map, length-map}
 use Rattle.flp_gadget.specs.KindTree as tree
 use Rattle.flp_gadget.specs.KindTree.{KindTree, Mul, Poly, Psum, HasParts, IsKind}
@@ -8,18 +8,16 @@ use Rattle.flp_gadget.specs.KindProofs.{some_input}
 use Rattle.flp_gadget.specs.declared.kind_step.KindStep.{KindStep}
 use Rattle.flp_gadget.specs.declared.kind_step.KindStep.TheVariants.{Psum as PsumStep}
 use Rattle.flp_plan.specs.Kinds.{StepsFollow}
-use Rattle.flp_syntax.specs.declared.syntax.Coef.{Coef}
-use Rattle.flp_syntax.specs.Tree.{Kind, mul_kind, poly_kind, psum_kind, Declaration, Program}
-use Rattle.flp_syntax.specs.Scope.{arity_of, degree_of}
-use Rattle.flp_check.specs.Events.{arity_at}
-use Rattle.flp_meaning.specs.Circuit.{coefficient, kind_tree, kind_of}
+use Rattle.flp_syntax.specs.Tree.{Kind, mul_kind, poly_kind, psum_kind, Declaration}
+use Rattle.flp_syntax.specs.Scope.{declared_arity, declared_degree, arity_at}
+use Rattle.flp_meaning.specs.Circuit.{coefficient, kind_tree}
 
-pub arity-kind_tree : (kind : Kind) → tree.arity_of (kind_tree kind) ≡ arity_of kind
+pub arity-kind_tree : (kind : Kind) → tree.kind_arity (kind_tree kind) ≡ declared_arity kind
 arity-kind_tree mul_kind = refl
 arity-kind_tree (poly_kind coefs) = refl
 arity-kind_tree (psum_kind count inner) = ap (λ (n : ℕ). count * n) (arity-kind_tree inner)
 
-pub degree-kind_tree : (kind : Kind) → tree.degree_of (kind_tree kind) ≡ degree_of kind
+pub degree-kind_tree : (kind : Kind) → tree.kind_degree (kind_tree kind) ≡ declared_degree kind
 degree-kind_tree mul_kind = refl
 degree-kind_tree (poly_kind coefs) = ap (λ (n : ℕ). n - 1) (length-map coefs coefficient)
 degree-kind_tree (psum_kind count inner) = degree-kind_tree inner
@@ -30,39 +28,39 @@ some_factors zero b h = let none : zero * b ≡ 0 = omega arith in absurd (omega
 some_factors (suc a) zero h = let none : suc a * zero ≡ 0 = omega arith in absurd (omega arith)
 some_factors (suc a) (suc b) h = (omega arith, omega arith)
 
-pub has_parts : (kind : Kind) → 1 ≤ arity_of kind → 1 ≤ degree_of kind → degree_of kind ≤ 8 → HasParts (kind_tree kind)
+pub has_parts : (kind : Kind) → 1 ≤ declared_arity kind → 1 ≤ declared_degree kind → declared_degree kind ≤ 8 → HasParts (kind_tree kind)
 has_parts mul_kind arity low high = tt
 has_parts (poly_kind coefs) arity low high =
     let size : length (map coefficient coefs) ≡ length coefs = length-map coefs coefficient in (omega arith, omega arith)
 has_parts (psum_kind count inner) arity low high =
-    let both = some_factors count (arity_of inner) arity in (both.0, has_parts inner both.1 low high)
+    let both = some_factors count (declared_arity inner) arity in (both.0, has_parts inner both.1 low high)
 
 pub kind_at : (declared : List Declaration) (gadget : ℕ) (d : Declaration) → gadget < length declared
     → get_or (map (λ (decl : Declaration). kind_tree decl.kind) declared) gadget Mul ≡ kind_tree (get_or declared gadget d).kind
 kind_at declared gadget d below = get_or-map (λ (decl : Declaration). kind_tree decl.kind) declared gadget d Mul below
 
 pub arity_at-decl : (declared : List Declaration) (gadget : ℕ) (d : Declaration) → gadget < length declared
-    → arity_at declared gadget ≡ arity_of (get_or declared gadget d).kind
+    → arity_at declared gadget ≡ declared_arity (get_or declared gadget d).kind
 arity_at-decl [] gadget d below = absurd (omega arith)
 arity_at-decl (decl ∷ more) zero d below = refl
 arity_at-decl (decl ∷ more) (suc gadget) d below = arity_at-decl more gadget d (omega arith)
 
 pub arity_at-kind : (declared : List Declaration) (gadget : ℕ) → gadget < length declared
-    → arity_at declared gadget ≡ tree.arity_of (get_or (map (λ (decl : Declaration). kind_tree decl.kind) declared) gadget Mul)
+    → arity_at declared gadget ≡ tree.kind_arity (get_or (map (λ (decl : Declaration). kind_tree decl.kind) declared) gadget Mul)
 arity_at-kind [] gadget below = absurd (omega arith)
 arity_at-kind (decl ∷ more) gadget below =
     arity_at-decl (decl ∷ more) gadget decl below
-    ∙ sym (ap tree.arity_of (kind_at (decl ∷ more) gadget decl below) ∙ arity-kind_tree (get_or (decl ∷ more) gadget decl).kind)
+    ∙ sym (ap tree.kind_arity (kind_at (decl ∷ more) gadget decl below) ∙ arity-kind_tree (get_or (decl ∷ more) gadget decl).kind)
 
 -- ---- sums over groups
 
 -- what is under a sum is a kind, and its count is small
 pub kind_under : (sub : KindTree) (count : ℕ) → IsKind (Psum sub count) → (count ≤ 1024) × IsKind sub
 kind_under sub count kind =
-    let some : 1 ≤ tree.arity_of sub = some_input sub kind.parts.1 in
-    let least : count * 1 ≤ count * tree.arity_of sub = mul-le-mul (omega arith) some in
-    let most : 1 * tree.arity_of sub ≤ count * tree.arity_of sub = mul-le-mul kind.parts.0 (omega arith) in
-    let few : count * tree.arity_of sub ≤ 1024 = kind.few_inputs in
+    let some : 1 ≤ tree.kind_arity sub = some_input sub kind.parts.1 in
+    let least : count * 1 ≤ count * tree.kind_arity sub = mul-le-mul (omega arith) some in
+    let most : 1 * tree.kind_arity sub ≤ count * tree.kind_arity sub = mul-le-mul kind.parts.0 (omega arith) in
+    let few : count * tree.kind_arity sub ≤ 1024 = kind.few_inputs in
     (omega arith, record { parts = kind.parts.1; few_inputs = omega arith })
 
 -- a sum's step and then the steps of what is under it

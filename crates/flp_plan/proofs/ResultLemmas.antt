@@ -1,13 +1,12 @@
 -- The checks and outs of a circuit are as many as its events say, under every reading. From expressions up to statements.
-use Rattle.std.proofs.Common.{◌≡◌, ℕ, zero, suc, ◌+◌, ◌-◌, ◌*◌, ◌%◌, ◌^◌, ◌<◌, ◌≤◌, Bool, true, false, ◌&&◌, ◌||◌, not, List, [], ◌∷◌, ◌++◌, length, map, Option, Some, None, leb, ltb, nat_le, nat_lt, refl, sym, ◌∙◌, ap, ap₂, arith, if◌then◌else◌, ◌==◌, subst}
-use Rattle.std.specs.List.{flat_map, sum_by}
+use Rattle.std.proofs.Common.{◌≡◌, ℕ, suc, ◌+◌, true, false, List, [], ◌∷◌, ◌++◌, length, map, Option, Some, None, refl, sym, ◌∙◌, ap, ap₂, arith, if◌then◌else◌, ◌==◌}
+use Rattle.std.specs.List.{flat_map}
 use Rattle.flp_syntax.specs.Tree.{Index, Tree, number, var, joint, meas, meas_or_zero, sum, call, add, mul, pow, Items, no_items, item_on, Trees, no_trees, tree_on, Argument, one, each_arg, Arguments, no_args, arg_on, Statement, check, out, each, Statements, no_stmts, stmt_on, Declaration, Program}
-use Rattle.flp_syntax.specs.Sorts.{is_shared, has_shared_item, has_shared}
-use Rattle.flp_syntax.specs.Scope.{Scope, inside, bound_value, index_value, turns, gadget_number}
-use Rattle.flp_check.specs.Events.{Event, visit, bad_index, bad_arity, gadget_call, a_check, an_out, in_words, index_events, range_events, args_count, arity_at, call_events, tree_events, items_events, factors_events, arg_events, args_events, stmt_events, stmts_events}
+use Rattle.flp_syntax.specs.Scope.{Scope, inside, index_value, turns, gadget_number, args_count, arity_at}
+use Rattle.flp_check.specs.Events.{Event, bad_arity, gadget_call, in_words, index_events, range_events, call_events, tree_events, items_events, factors_events, arg_events, args_events, stmt_events, stmts_events}
 use Rattle.std.proofs.lemmas.List.{length-append}
-use Rattle.flp_meaning.specs.Meaning.{Run, Reading, counted, meaning, Results, performed, statement_of, statements_of}
-use Rattle.flp_plan.proofs.WalkLemmas.{IsSilent, IsQuiet, checks_in, outs_in, quiet_joined, silent_quiet, quiet_checks, quiet_outs, checks_joined, outs_joined}
+use Rattle.flp_meaning.specs.Meaning.{Run, Reading, Results, all_results, statement_of, statements_of}
+use Rattle.flp_plan.proofs.WalkLemmas.{IsQuiet, checks_in, outs_in, quiet_joined, silent_quiet, quiet_checks, quiet_outs, checks_joined, outs_joined}
 use Rattle.flp_plan.proofs.CallLemmas.{silent_index, silent_range_events, silent_words}
 
 -- ---- expressions are no checks and no outs
@@ -80,19 +79,19 @@ pub record Gives (part : Run Results) (events : List Event) : Type 0 where
   pub checks : (n : ℕ) → length (part n).value.checks ≡ checks_in events
   pub outs : (n : ℕ) → length (part n).value.outs ≡ outs_in events
 
-gives_then : (first : Run Results) (more : List (Run Results)) (xs ys : List Event) → Gives first xs → Gives (performed more) ys
-    → Gives (performed (first ∷ more)) (xs ++ ys)
+gives_then : (first : Run Results) (more : List (Run Results)) (xs ys : List Event) → Gives first xs → Gives (all_results more) ys
+    → Gives (all_results (first ∷ more)) (xs ++ ys)
 gives_then first more xs ys a b = record {
   checks = λ n.
-      length-append (first n).value.checks (performed more (n + length (first n).calls)).value.checks
+      length-append (first n).value.checks (all_results more (n + length (first n).calls)).value.checks
       ∙ ap₂ (λ (s t : ℕ). s + t) (a.checks n) (b.checks (n + length (first n).calls)) ∙ sym (checks_joined xs ys);
   outs = λ n.
-      length-append (first n).value.outs (performed more (n + length (first n).calls)).value.outs
+      length-append (first n).value.outs (all_results more (n + length (first n).calls)).value.outs
       ∙ ap₂ (λ (s t : ℕ). s + t) (a.outs n) (b.outs (n + length (first n).calls)) ∙ sym (outs_joined xs ys);
 }
 
 gives_turns : (part : ℕ → Run Results) (events : ℕ → List Event) → ((turn : ℕ) → Gives (part turn) (events turn))
-    → (ts : List ℕ) → Gives (performed (map part ts)) (flat_map events ts)
+    → (ts : List ℕ) → Gives (all_results (map part ts)) (flat_map events ts)
 gives_turns part events each_turn [] = record { checks = λ n. refl; outs = λ n. refl }
 gives_turns part events each_turn (t ∷ ts) =
     gives_then (part t) (map part ts) (events t) (flat_map events ts) (each_turn t) (gives_turns part events each_turn ts)
@@ -122,14 +121,14 @@ mutual
     outs = λ n. ap suc (sym (quiet_outs (tree_events body scope expr) (quiet_tree body scope expr)));
   }
   gives_stmt body reading scope (each at name from to inner) =
-      let part = λ (turn : ℕ). performed (statements_of body.gadgets reading (inside scope name turn) inner) in
+      let part = λ (turn : ℕ). all_results (statements_of body.gadgets reading (inside scope name turn) inner) in
       let loop = turns (index_value scope from) (index_value scope to) in
-      let all = gives_loop (performed (map part loop)) scope from to (flat_map (λ turn. stmts_events body (inside scope name turn) inner) loop)
+      let all = gives_loop (all_results (map part loop)) scope from to (flat_map (λ turn. stmts_events body (inside scope name turn) inner) loop)
       (gives_turns part (λ turn. stmts_events body (inside scope name turn) inner) (λ turn. gives_stmts body reading (inside scope name turn) inner) loop) in
       record { checks = all.checks; outs = all.outs }
 
   pub gives_stmts : (body : Program) (reading : Reading) (scope : Scope) (stmts : Statements)
-      → Gives (performed (statements_of body.gadgets reading scope stmts)) (stmts_events body scope stmts)
+      → Gives (all_results (statements_of body.gadgets reading scope stmts)) (stmts_events body scope stmts)
   gives_stmts body reading scope no_stmts = record { checks = λ n. refl; outs = λ n. refl }
   gives_stmts body reading scope (stmt_on stmt more) =
       gives_then (statement_of body.gadgets reading scope stmt) (statements_of body.gadgets reading scope more) (stmt_events body scope stmt)

@@ -1,10 +1,10 @@
 -- The terms of a circuit are at most the nodes that are met while unrolling it. From expressions up to statements.
-use Rattle.std.proofs.Common.{◌≡◌, ℕ, zero, suc, ◌+◌, ◌-◌, ◌*◌, ◌%◌, ◌^◌, ◌<◌, ◌≤◌, Bool, true, false, ◌&&◌, ◌||◌, not, List, [], ◌∷◌, ◌++◌, length, map, Option, Some, None, leb, ltb, nat_le, nat_lt, refl, sym, ◌∙◌, ap, ap₂, arith, if◌then◌else◌, ◌==◌, subst}
+use Rattle.std.proofs.Common.{◌≡◌, ℕ, suc, ◌+◌, ◌≤◌, Bool, true, false, List, [], ◌∷◌, ◌++◌, nat_lt, arith, if◌then◌else◌}
 use Rattle.std.specs.List.{flat_map, sum_by}
-use Rattle.flp_syntax.specs.Tree.{Index, Tree, number, var, joint, meas, meas_or_zero, sum, call, add, mul, pow, Items, no_items, item_on, Trees, no_trees, tree_on, Argument, one, each_arg, Arguments, no_args, arg_on, Statement, check, out, each, Statements, no_stmts, stmt_on, Declaration, Program}
+use Rattle.flp_syntax.specs.Tree.{Tree, number, var, joint, meas, meas_or_zero, sum, call, add, mul, pow, Items, no_items, item_on, Trees, no_trees, tree_on, Argument, one, each_arg, Arguments, no_args, arg_on, Statement, check, out, each, Statements, no_stmts, stmt_on, Program}
 use Rattle.flp_syntax.specs.Sorts.{is_shared, has_shared_item, has_shared}
-use Rattle.flp_syntax.specs.Scope.{Scope, inside, bound_value, index_value, turns, gadget_number}
-use Rattle.flp_check.specs.Events.{Event, visit, bad_index, bad_arity, gadget_call, a_check, an_out, in_words, index_events, range_events, args_count, arity_at, call_events, tree_events, items_events, factors_events, arg_events, args_events, stmt_events, stmts_events}
+use Rattle.flp_syntax.specs.Scope.{Scope, inside, index_value, turns, gadget_number, args_count}
+use Rattle.flp_check.specs.Events.{Event, index_events, range_events, call_events, tree_events, items_events, factors_events, arg_events, args_events, stmt_events, stmts_events}
 use Rattle.std.proofs.lemmas.List.Sums.{sum_by-cons}
 use Rattle.flp_meaning.specs.Terms.{form_terms, item_terms, shared_factor_terms, input_terms, input_terms_of_items, input_terms_of_factors, terms_of_argument, terms_of_arguments, statement_terms, terms_of_statements}
 use Rattle.flp_plan.proofs.WalkLemmas.{visits_in, visits_joined}

@@ -1,27 +1,26 @@
 -- What the code of a circuit says of its calls, checks and outs. From their numbers up to their values.
-use Rattle.std.proofs.Common.{◌≡◌, ℕ, ◌+◌, ◌-◌, ◌*◌, ◌<◌, ◌≤◌, ◌%◌, List, [], ◌∷◌, length, map, take, drop, get_or, min, Some, refl, sym, ◌∙◌, ap, ap₂, subst, arith}
-use Rattle.std.specs.Prelude.{slice_index, replicate}
-use Rattle.std.specs.List.{All, slice_get, slice_range}
+use Rattle.std.proofs.Common.{◌≡◌, ℕ, ◌-◌, ◌<◌, ◌≤◌, ◌%◌, List, [], ◌∷◌, length, map, take, drop, get_or, Some, refl, sym, ◌∙◌, ap, ap₂, subst, arith}
+use Rattle.std.specs.Prelude.{replicate}
+use Rattle.std.specs.List.{All, slice_get}
 use Rattle.std.specs.Option.{option_map}
 use Rattle.std.proofs.lemmas.List.{get_or-take, get_or-map, length-replicate}
 use Rattle.std.proofs.lemmas.List.Elements.{All-head, All-tail}
-use Rattle.std.proofs.lemmas.Option.{slice_get-map, slice_get_within, get_or_from_slice_get, slice_get-get_or}
+use Rattle.std.proofs.lemmas.Option.{slice_get-map, slice_get-get_or}
 use Rattle.flp_field.specs.Word.{modulus}
 use Rattle.flp_syntax.specs.Tree.{Program}
 use Rattle.flp_meaning.specs.Meaning.{Call}
-use Rattle.flp_meaning.specs.Circuit.{circuit_of, checks_of, calls_of, outs_of, answered}
+use Rattle.flp_meaning.specs.Circuit.{checks_of, calls_of, outs_of, with_answers}
 use Rattle.flp_meaning.specs.Gadgets.{arity_of, gadgets_called, call_count, call_gadget, check_count, out_count}
 use Rattle.flp_meaning.proofs.Fixed.{gadgets_are_fixed, checks_are_fixed, outs_are_fixed}
 use Rattle.flp_forms.specs.declared.term.Term.{Term}
 use Rattle.flp_forms.specs.declared.term.Source.{Source}
 use Rattle.flp_forms.specs.declared.term.Source.TheVariants.{Unit as ByUnit, Meas, Answer}
-use Rattle.flp_forms.specs.LinearForms.{Share, share_of, form_value, TermFits, SourceFits}
+use Rattle.flp_forms.specs.LinearForms.{Share, share_of, form_value, SourceFits, FormFits}
 use Rattle.flp_forms.specs.PublicValues.{publics}
-use Rattle.flp_forms.specs.Laws.{SameBelow}
-use Rattle.flp_forms.proofs.FormLemmas.{form_value-below}
+use Rattle.flp_forms.proofs.FormLemmas.{SameBelow, form_value-below}
 use Rattle.flp_emit.specs.declared.code.CallForms.{CallForms}
 use Rattle.flp_emit.specs.declared.code.Code.{Code}
-use Rattle.flp_emit.specs.Code.{Tied, CallFits, FormFits, form_words, inputs_in, call_by, read_by}
+use Rattle.flp_emit.specs.Code.{Tied, CallFits, form_words, inputs_in, call_by, read_by}
 use Rattle.flp_plan.specs.Keeps.{Keeps}
 use Rattle.flp_plan.specs.View.{HasInputs}
 use Rattle.flp_plan.proofs.FormLemmas.{all_at, range_length, mapped_length}
@@ -169,7 +168,7 @@ pub written_inputs : (body : Program) (code : Code) (number : ℕ) (call : CallF
     → (unit size : ℕ) → Tied body code → length x ≡ body.meas → CallThere body code number call → size ≡ arity_of body (call_gadget body number)
     → out ≡ form_words (publics code.steps.steps joint) (share_of x answers unit) (take size (drop call.first code.inputs))
     → take number others ≡ take number answers
-    → HasInputs body (answered x joint unit others) number out
+    → HasInputs body (with_answers x joint unit others) number out
 written_inputs body code number call joint x answers others out unit size tied fits there same_size written same =
     let values : List ℕ = publics code.steps.steps joint in
     let these : out ≡ form_words values (share_of x answers unit) (inputs_in code.inputs call) =

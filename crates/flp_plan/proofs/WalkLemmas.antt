@@ -1,20 +1,9 @@
--- What a walk that ends without a fault says of the events on its way: none is a fault, and each count is that of its events and within its limit.
-use Rattle.std.proofs.Common.{◌≡◌, ◌≢◌, ℕ, zero, suc, ◌+◌, ◌<◌, ◌≤◌, Bool, true, false, List, [], ◌∷◌, ◌++◌, length, Result, Ok, Err, slice_index, slice_set, get_or, set, cond, ltb, eqb, ◌⊎◌, inl, inr, refl, sym, ◌∙◌, ap, arith, nat_lt, ltb-true, if◌then◌else◌, ◌==◌, subst}
-use Rattle.std.specs.List.{flat_map}
+-- What a walk that ends without a fault says of the events on its way: each count is that of its events.
+use Rattle.std.proofs.Common.{◌≡◌, ◌≢◌, ℕ, zero, suc, ◌+◌, ◌<◌, Bool, true, false, List, [], ◌∷◌, ◌++◌, length, Result, Ok, Err, get_or, set, ◌⊎◌, inl, inr, refl, sym, ◌∙◌, ap, arith, nat_lt, if◌then◌else◌, ◌==◌, subst}
 use Rattle.flp_syntax.specs.declared.fault.LangFault.{LangFault}
 use Rattle.flp_check.specs.Events.{Event, visit, bad_index, bad_arity, gadget_call, a_check, an_out}
 use Rattle.std.proofs.lemmas.Bool.Decides.{eqb_tells}
-use Rattle.flp_check.specs.Counts.{Counts, meet, go_on, walk}
-
--- no event is a fault
-abbrev pub IsClean : List Event → Type 0
-IsClean [] = Unit {0}
-IsClean (visit ∷ more) = IsClean more
-IsClean (bad_index at ∷ more) = ⊥
-IsClean (bad_arity at ∷ more) = ⊥
-IsClean (gadget_call gadget ∷ more) = IsClean more
-IsClean (a_check ∷ more) = IsClean more
-IsClean (an_out ∷ more) = IsClean more
+use Rattle.flp_check.specs.Counts.{Counts, go_on, walk}
 
 -- how many events are visits, calls of a gadget, checks and outs
 abbrev pub visits_in : List Event → ℕ
@@ -55,17 +44,8 @@ outs_in (an_out ∷ more) = suc (outs_in more)
 
 -- ---- a walk
 
--- the counts are within their limits
-pub record IsWithin (counts : Counts) : Type 0 where
-  pub visits : counts.visits ≤ 4194304
-  pub calls : (g : ℕ) → get_or counts.calls g 0 ≤ 4095
-  pub checks : counts.checks ≤ 65536
-  pub outs : counts.outs ≤ 65536
-
 -- the events led from counts to counts
 pub record Met (before after : Counts) (events : List Event) : Type 0 where
-  pub clean : IsClean events
-  pub within : IsWithin after
   pub gadgets : length after.calls ≡ length before.calls
   pub visits : after.visits ≡ before.visits + visits_in events
   pub calls : (g : ℕ) → g < length before.calls → get_or after.calls g 0 ≡ get_or before.calls g 0 + calls_in g events
@@ -108,58 +88,33 @@ one_more (c ∷ calls) (suc gadget) (suc g) h =
     one_more calls gadget g (omega arith)
     ∙ ap (λ (b : Bool). get_or calls g 0 + (if b then 1 else 0)) (sym (eqb-suc gadget g))
 
-within_set : (calls : List ℕ) (gadget : ℕ) → ((g : ℕ) → get_or calls g 0 ≤ 4095) → get_or calls gadget 0 < 4095
-    → (g : ℕ) → get_or (set calls gadget (suc (get_or calls gadget 0))) g 0 ≤ 4095
-within_set [] gadget all below g = omega arith
-within_set (c ∷ calls) zero all below zero = omega arith
-within_set (c ∷ calls) zero all below (suc g) = all (suc g)
-within_set (c ∷ calls) (suc gadget) all below zero = all zero
-within_set (c ∷ calls) (suc gadget) all below (suc g) = within_set calls gadget (λ k. all (suc k)) below g
-
 length_set : (calls : List ℕ) (gadget value : ℕ) → length (set calls gadget value) ≡ length calls
 length_set [] gadget value = refl
 length_set (c ∷ calls) zero value = refl
 length_set (c ∷ calls) (suc gadget) value = ap suc (length_set calls gadget value)
 
-pub met : (before : Counts) (events : List Event) (after : Counts) → IsWithin before → walk before events ≡ Ok after → Met before after events
-met before [] after within e =
+pub met : (before : Counts) (events : List Event) (after : Counts) → walk before events ≡ Ok after → Met before after events
+met before [] after e =
     let same : before ≡ after = cc in
     subst (λ (c : Counts). Met before c []) same (record {
-      clean = tt;
-      within = within;
       gadgets = refl;
       visits = omega arith;
       calls = λ g h. omega arith;
       checks = omega arith;
       outs = omega arith;
     })
-met before (visit ∷ more) after within e =
-    let test : (nat_lt before.visits 4194304 ≡ true) × (walk (record before { visits = suc before.visits }) more ≡ Ok after) =
-    passed_test _ _ _ _ after e in
-    let room : before.visits < 4194304 = ltb-true _ _ test.0 in
-    let rest = met (record before { visits = suc before.visits }) more after
-    (record { visits = omega arith; calls = within.calls; checks = within.checks; outs = within.outs }) test.1 in
-    record {
-      clean = rest.clean;
-      within = rest.within;
-      gadgets = rest.gadgets;
-      visits = omega arith;
-      calls = rest.calls;
-      checks = rest.checks;
-      outs = rest.outs;
-    }
-met before (bad_index at ∷ more) after within e = cc
-met before (bad_arity at ∷ more) after within e = cc
-met before (gadget_call gadget ∷ more) after within e =
+met before (visit ∷ more) after e =
+    let next : Counts = record before { visits = suc before.visits } in
+    let test : (nat_lt before.visits 4194304 ≡ true) × (walk next more ≡ Ok after) = passed_test _ _ _ _ after e in
+    let rest = met next more after test.1 in
+    record { gadgets = rest.gadgets; visits = omega (arith, rest.visits); calls = rest.calls; checks = rest.checks; outs = rest.outs }
+met before (bad_index at ∷ more) after e = cc
+met before (bad_arity at ∷ more) after e = cc
+met before (gadget_call gadget ∷ more) after e =
     let next : Counts = record before { calls = set before.calls gadget (suc (get_or before.calls gadget 0)) } in
-    let test : (nat_lt (get_or before.calls gadget 0) 4095 ≡ true) × (walk next more ≡ Ok after) =
-    passed_test _ _ _ _ after e in
-    let room : get_or before.calls gadget 0 < 4095 = ltb-true _ _ test.0 in
-    let rest = met next more after
-    (record { visits = within.visits; calls = within_set before.calls gadget within.calls room; checks = within.checks; outs = within.outs }) test.1 in
+    let test : (nat_lt (get_or before.calls gadget 0) 4095 ≡ true) × (walk next more ≡ Ok after) = passed_test _ _ _ _ after e in
+    let rest = met next more after test.1 in
     record {
-      clean = rest.clean;
-      within = rest.within;
       gadgets = rest.gadgets ∙ length_set before.calls gadget _;
       visits = rest.visits;
       calls = λ g h.
@@ -170,36 +125,16 @@ met before (gadget_call gadget ∷ more) after within e =
       checks = rest.checks;
       outs = rest.outs;
     }
-met before (a_check ∷ more) after within e =
-    let test : (nat_lt before.checks 65536 ≡ true) × (walk (record before { checks = suc before.checks }) more ≡ Ok after) =
-    passed_test _ _ _ _ after e in
-    let room : before.checks < 65536 = ltb-true _ _ test.0 in
-    let rest = met (record before { checks = suc before.checks }) more after
-    (record { visits = within.visits; calls = within.calls; checks = omega arith; outs = within.outs }) test.1 in
-    record {
-      clean = rest.clean;
-      within = rest.within;
-      gadgets = rest.gadgets;
-      visits = rest.visits;
-      calls = rest.calls;
-      checks = omega arith;
-      outs = rest.outs;
-    }
-met before (an_out ∷ more) after within e =
-    let test : (nat_lt before.outs 65536 ≡ true) × (walk (record before { outs = suc before.outs }) more ≡ Ok after) =
-    passed_test _ _ _ _ after e in
-    let room : before.outs < 65536 = ltb-true _ _ test.0 in
-    let rest = met (record before { outs = suc before.outs }) more after
-    (record { visits = within.visits; calls = within.calls; checks = within.checks; outs = omega arith }) test.1 in
-    record {
-      clean = rest.clean;
-      within = rest.within;
-      gadgets = rest.gadgets;
-      visits = rest.visits;
-      calls = rest.calls;
-      checks = rest.checks;
-      outs = omega arith;
-    }
+met before (a_check ∷ more) after e =
+    let next : Counts = record before { checks = suc before.checks } in
+    let test : (nat_lt before.checks 65536 ≡ true) × (walk next more ≡ Ok after) = passed_test _ _ _ _ after e in
+    let rest = met next more after test.1 in
+    record { gadgets = rest.gadgets; visits = rest.visits; calls = rest.calls; checks = omega (arith, rest.checks); outs = rest.outs }
+met before (an_out ∷ more) after e =
+    let next : Counts = record before { outs = suc before.outs } in
+    let test : (nat_lt before.outs 65536 ≡ true) × (walk next more ≡ Ok after) = passed_test _ _ _ _ after e in
+    let rest = met next more after test.1 in
+    record { gadgets = rest.gadgets; visits = rest.visits; calls = rest.calls; checks = rest.checks; outs = omega (arith, rest.outs) }
 
 -- ---- events that are no calls, no checks and no outs
 
@@ -277,24 +212,6 @@ quiet_outs (a_check ∷ xs) a = absurd a
 quiet_outs (an_out ∷ xs) a = absurd a
 
 -- ---- events one after another
-
-pub clean_left : (xs ys : List Event) → IsClean (xs ++ ys) → IsClean xs
-clean_left [] ys c = tt
-clean_left (visit ∷ xs) ys c = clean_left xs ys c
-clean_left (bad_index at ∷ xs) ys c = c
-clean_left (bad_arity at ∷ xs) ys c = c
-clean_left (gadget_call g ∷ xs) ys c = clean_left xs ys c
-clean_left (a_check ∷ xs) ys c = clean_left xs ys c
-clean_left (an_out ∷ xs) ys c = clean_left xs ys c
-
-pub clean_right : (xs ys : List Event) → IsClean (xs ++ ys) → IsClean ys
-clean_right [] ys c = c
-clean_right (visit ∷ xs) ys c = clean_right xs ys c
-clean_right (bad_index at ∷ xs) ys c = absurd c
-clean_right (bad_arity at ∷ xs) ys c = absurd c
-clean_right (gadget_call g ∷ xs) ys c = clean_right xs ys c
-clean_right (a_check ∷ xs) ys c = clean_right xs ys c
-clean_right (an_out ∷ xs) ys c = clean_right xs ys c
 
 pub visits_joined : (xs ys : List Event) → visits_in (xs ++ ys) ≡ visits_in xs + visits_in ys
 visits_joined [] ys = omega arith

@@ -6,11 +6,10 @@ use Rattle.flp_meaning.specs.Terms.{wire_count, term_count}
 use Rattle.flp_plan.specs.declared.lengths.Lengths.{Lengths}
 use Rattle.flp_plan.specs.declared.fault.PlanFault.{PlanFault}
 use Rattle.flp_plan.specs.declared.fault.PlanFault.TheVariants.{Memory, Limit}
-use Rattle.flp_plan.specs.declared.fault.PlanCounted.{PlanCounted}
 use Rattle.flp_plan.specs.declared.fault.PlanCounted.TheVariants.{Wires, Terms}
 
-abbrev pub lengths_of : Program → Lengths
-lengths_of circuit =
+abbrev pub counted_lengths : Program → Lengths
+counted_lengths circuit =
     record {
       meas = (words.lengths_of circuit).meas;
       joint = (words.lengths_of circuit).joint;
@@ -36,7 +35,7 @@ limit_fault circuit =
     if nat_lt most (wire_count circuit) then Some (Limit Wires (wire_count circuit))
     else (if nat_lt most (term_count circuit) then Some (Limit Terms (term_count circuit)) else None)
 
--- want of memory alone is free
+-- want of memory is free where the wires are not past their limit, which is found with none
 abbrev pub IsFaultOf : Program → PlanFault → Type 0
-IsFaultOf circuit Memory = Unit {0}
+IsFaultOf circuit Memory = wire_count circuit ≤ most
 IsFaultOf circuit (Limit which value) = limit_fault circuit ≡ Some (Limit which value)

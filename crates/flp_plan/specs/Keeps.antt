@@ -1,5 +1,5 @@
 -- What every checked circuit keeps, whatever it is read with.
-use Rattle.std.specs.Prelude.{ℕ, ◌≡◌, List, length, All}
+use Rattle.std.specs.Prelude.{◌≡◌, length, All}
 use Rattle.flp_syntax.specs.Tree.{Program}
 use Rattle.flp_meaning.specs.Meaning.{Call, Reading}
 use Rattle.flp_meaning.specs.Circuit.{circuit_of, calls_of, outs_of}

@@ -1,14 +1,10 @@
--- Compiled circuits, from what contracts see of a plan up to the laws of shares.
--- circuits are data
-pub mod Codes
+-- Compiled circuits, from what contracts see of a plan up to what it keeps.
 -- a plan as contracts see it, and what its calls answer
 pub mod View
 -- the lengths, and what compiling refuses
 pub mod Counted
 -- the limits that the circuit of a plan keeps
 pub mod Limits
--- the laws of shares
-pub mod Shares
 -- gadgets as they are declared
 pub mod Kinds
 -- gadgets as a plan holds them
@@ -21,3 +17,7 @@ pub mod Numbers
 pub mod Plan
 -- what every checked circuit keeps
 pub mod Keeps
+-- what a plan asks of working room
+pub mod Sizes
+-- what the wires of a gadget run through
+pub mod Rows

@@ -1,5 +1,5 @@
 -- The limits that the circuit of every plan keeps.
-use Rattle.std.specs.Prelude.{ℕ, ◌+◌, ◌*◌, ◌^◌, ◌<◌, ◌≤◌, length}
+use Rattle.std.specs.Prelude.{ℕ, ◌+◌, ◌<◌, ◌≤◌, length}
 use Rattle.flp_gadget.specs.KindTree.{IsKind}
 use Rattle.flp_syntax.specs.Tree.{Program}
 use Rattle.flp_meaning.specs.Circuit.{kind_of}
@@ -25,7 +25,7 @@ pub record CallIsWithin (circuit : Program) (number : ℕ) : Type 0 where
   pub from_one : 1 ≤ call_number circuit number
   pub among_calls : call_number circuit number ≤ calls_made circuit (call_gadget circuit number)
 
-pub record IsWithinLimits (circuit : Program) : Type 0 where
+pub record CircuitIsWithin (circuit : Program) : Type 0 where
   pub some_meas : 1 ≤ circuit.meas
   pub few_meas : circuit.meas ≤ 65536
   pub few_joint : circuit.joint ≤ 65536

@@ -1,6 +1,6 @@
 -- The gadgets of a circuit as a plan holds them, and how many words they take. From one gadget up.
 use Rattle.std.specs.Prelude.{ℕ, ◌≡◌, ◌+◌, ◌-◌, ◌*◌, ◌^◌, ◌≤◌, List, length, Some, slice_get}
-use Rattle.flp_gadget.specs.KindTree.{IsKind, arity_of, degree_of}
+use Rattle.flp_gadget.specs.KindTree.{IsKind, kind_arity, kind_degree}
 use Rattle.flp_syntax.specs.Tree.{Program}
 use Rattle.flp_meaning.specs.Circuit.{kind_of}
 use Rattle.flp_meaning.specs.Gadgets.{calls_made, log_of}
@@ -22,10 +22,7 @@ pub record UseIsSmall (held : GadgetUse) : Type 0 where
   pub log : held.log ≤ 12
 
 abbrev pub proof_words_in : GadgetUse → ℕ
-proof_words_in held = arity_of held.kind + (degree_of held.kind * (2 ^ held.log - 1) + 1)
+proof_words_in held = kind_arity held.kind + (kind_degree held.kind * (2 ^ held.log - 1) + 1)
 
 abbrev pub verifier_words_in : GadgetUse → ℕ
-verifier_words_in held = arity_of held.kind + 1
-
-abbrev pub wires_in : GadgetUse → ℕ
-wires_in held = arity_of held.kind * 2 ^ held.log
+verifier_words_in held = kind_arity held.kind + 1

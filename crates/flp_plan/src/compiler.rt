@@ -7,7 +7,7 @@ ghost use Rattle.flp_plan.specs.Sums.{AreSumsOf};
 
 use crate::Memory;
 use crate::fault::{PlanCounted, PlanFault};
-use crate::gadgets::{GadgetUse, Sums, gadget_uses, sums_of};
+use crate::gadgets::{GadgetUse, Sums, gadget_uses, sums_of, wire_points};
 use crate::lengths::lengths_for;
 use crate::numbers::call_numbers;
 use crate::plan::Plan;
@@ -21,34 +21,28 @@ const MOST: u64 = 1_048_576;
 /// Makes a plan of a checked circuit, which it keeps.
 ///
 /// It refuses a circuit exactly where the points of its wires, or else its terms, are more than 1,048,576, with
-/// the whole count, and counts them before it makes code. After a refusal the circuit is dropped.
+/// the whole count, and counts them before it makes code. The wires are counted with no memory, and the terms with that
+/// of the marks of the text and the loops round a place. After a refusal the circuit is dropped.
 pub fn compile(alloc: Global, checked: Checked) -> Result<Plan, PlanFault>
     ensures circuit { IfOk result (λ plan. plan.circuit ≡ program_of checked.body) }
     ensures within { IfOk result (λ _. limit_fault (program_of checked.body) ≡ None) }
     ensures fault { IfErr result (λ fault. IsFaultOf (program_of checked.body) fault) }
 {
-    let gadgets = gadget_uses(alloc, &checked)?;
-    let sums = sums_of(&gadgets);
-    if let Err(fault) = refuse_large(alloc, &checked, &gadgets, sums) {
+    if let Err(fault) = refuse_large(alloc, &checked) {
         return Err(fault);
     }
+    let gadgets = gadget_uses(alloc, &checked)?;
+    let sums = sums_of(&gadgets);
     let plan = planned(alloc, checked, gadgets, sums)?;
     Ok(plan)
 }
 
 /// Refuses a circuit with too many points of wires or too many terms.
-fn refuse_large(
-    alloc: Global,
-    checked: &Checked,
-    uses: &[GadgetUse],
-    sums: Sums,
-) -> Result<(), PlanFault>
-    requires uses { AreUsesOf (program_of checked.now.body) uses.now }
-    requires sums { AreSumsOf uses.now sums }
+fn refuse_large(alloc: Global, checked: &Checked) -> Result<(), PlanFault>
     ensures within { IfOk result (λ _. IsSmallCircuit (program_of checked.now.body)) }
     ensures fault { IfErr result (λ fault. IsFaultOf (program_of checked.now.body) fault) }
 {
-    let wires = u64::from(sums.wires);
+    let wires = u64::from(wire_points(checked));
     if wires > MOST {
         return Err(PlanFault::Limit(PlanCounted::Wires, wires));
     }

@@ -1,12 +1,13 @@
 //! The gadgets of a circuit as a plan holds them, and how many words they take.
 ghost use Rattle.std.specs.Prelude.{◌≡◌, ◌<◌, ◌≤◌, ◌^◌, ◌*◌, ◌+◌, ◌-◌, ℕ, IfOk, All, length, map, sum_by};
-ghost use Rattle.flp_gadget.specs.KindTree.{IsKind, arity_of, degree_of};
+ghost use Rattle.flp_gadget.specs.KindTree.{IsKind, kind_arity, kind_degree};
 ghost use Rattle.flp_syntax.specs.View.{program_of};
-ghost use Rattle.flp_meaning.specs.Gadgets.{ceil_log};
-ghost use Rattle.flp_plan.specs.Uses.{AreUsesOf, UseIsSmall, wires_in, proof_words_in, verifier_words_in};
+ghost use Rattle.flp_meaning.specs.Gadgets.{ceil_log, log_of};
+ghost use Rattle.flp_meaning.specs.Terms.{wire_count};
+ghost use Rattle.flp_plan.specs.Uses.{AreUsesOf, UseIsSmall, proof_words_in, verifier_words_in};
 ghost use Rattle.flp_plan.specs.Sums.{ArePartsSmall, AreSumsOf};
 
-use crate::kinds::declared_kind;
+use crate::kinds::{declared_inputs, declared_kind};
 use flp_check::Checked;
 use flp_gadget::{Gadget, Kind, Memory};
 use std::alloc::Global;
@@ -29,8 +30,21 @@ pub(crate) struct Sums {
     pub(crate) proof: u32,
     /// Words of a verifier.
     pub(crate) verifier: u32,
-    /// Points of wires.
-    pub(crate) wires: u32,
+}
+
+/// The points of all wires of a checked circuit. It takes no memory.
+pub(crate) fn wire_points(checked: &Checked) -> u32
+    ensures { result ≡ wire_count (program_of checked.now.body) }
+{
+    let gadgets = checked.body.gadgets.as_slice();
+    let mut points = 0;
+    for (gadget, decl) in gadgets.iter().enumerate() {
+        let inputs = declared_inputs(&decl.kind);
+        let log = domain_log(checked, gadget);
+        let size = domain_size(log);
+        points += inputs * size;
+    }
+    points
 }
 
 /// The gadgets of a checked circuit.
@@ -43,10 +57,21 @@ pub(crate) fn gadget_uses(alloc: Global, checked: &Checked) -> Result<Vec<Gadget
     for (gadget, decl) in gadgets.iter().enumerate() {
         let kind = declared_kind(alloc, &decl.kind)?;
         let calls = counts[gadget];
-        let log = log_at_least(calls + 1);
+        let log = domain_log(checked, gadget);
         uses.push(GadgetUse { kind, calls, log })?;
     }
     Ok(uses)
+}
+
+/// The exponent of the size of a gadget's domain.
+fn domain_log(checked: &Checked, gadget: usize) -> u32
+    requires { gadget < length (program_of checked.now.body).gadgets }
+    ensures log { result ≡ log_of (program_of checked.now.body) gadget }
+    ensures few { result ≤ 12 }
+{
+    let counts = checked.calls.as_slice();
+    let calls = counts[gadget];
+    log_at_least(calls + 1)
 }
 
 /// The exponent of the least power of two that is at least this number.
@@ -74,14 +99,12 @@ pub(crate) fn sums_of(uses: &[GadgetUse]) -> Sums
         prove: 0,
         proof: 0,
         verifier: 0,
-        wires: 0,
     };
     for held in uses {
         let parts = parts_of(held);
         sums.prove += parts.prove;
         sums.proof += parts.proof;
         sums.verifier += parts.verifier;
-        sums.wires += parts.wires;
     }
     sums
 }
@@ -89,10 +112,9 @@ pub(crate) fn sums_of(uses: &[GadgetUse]) -> Sums
 /// What one gadget takes.
 fn parts_of(held: &GadgetUse) -> Sums
     requires { UseIsSmall held.now }
-    ensures prove { result.prove ≡ arity_of held.now.kind }
+    ensures prove { result.prove ≡ kind_arity held.now.kind }
     ensures proof { result.proof ≡ proof_words_in held.now }
     ensures verifier { result.verifier ≡ verifier_words_in held.now }
-    ensures wires { result.wires ≡ wires_in held.now }
     ensures small { ArePartsSmall result }
 {
     let arity = held.kind.arity() as u32;
@@ -102,7 +124,6 @@ fn parts_of(held: &GadgetUse) -> Sums
         prove: arity,
         proof: arity + degree * (size - 1) + 1,
         verifier: arity + 1,
-        wires: arity * size,
     }
 }
 

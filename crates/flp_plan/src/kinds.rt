@@ -1,6 +1,6 @@
 //! The kinds of the declared gadgets.
 ghost use Rattle.std.specs.Prelude.{◌≡◌, ◌++◌, List, Some, OnOk, IfOk};
-ghost use Rattle.flp_gadget.specs.KindTree.{IsKind};
+ghost use Rattle.flp_gadget.specs.KindTree.{IsKind, kind_arity};
 ghost use Rattle.flp_gadget.specs.KindText.{tree_of};
 ghost use Rattle.flp_gadget.specs.declared.kind_step.KindStep as step;
 ghost use Rattle.flp_syntax.specs.View as view;
@@ -22,6 +22,22 @@ pub(crate) fn declared_kind(alloc: Global, text: &KindText) -> Result<Kind, Memo
     add_steps(alloc, &mut steps, text)?;
     let kind = kind_of(alloc, &steps)?;
     Ok(kind)
+}
+
+/// How many inputs a declared gadget has.
+#[tactic(auto, using(flp_syntax::specs::View::view_equations))]
+pub(crate) fn declared_inputs(text: &KindText) -> u32
+    requires { IsKind (kind_tree (view.kind_of text.now)) }
+    ensures { result ≡ kind_arity (kind_tree (view.kind_of text.now)) }
+{
+    match text {
+        KindText::Mul => 2,
+        KindText::Poly(_) => 1,
+        KindText::Psum(count, inner) => {
+            let each = declared_inputs(inner);
+            *count as u32 * each
+        }
+    }
 }
 
 /// Adds the steps of a declared gadget, the outermost first.

@@ -1,28 +1,22 @@
 //! The laws of plans, each the contract of a function that does nothing. The definitions are in
-//! `specs/Shares.antt` and `specs/Limits.antt`.
-ghost use Rattle.flp_meaning.specs.Linear.{IsLinear};
-ghost use Rattle.flp_plan.specs.Limits.{IsWithinLimits};
-ghost use Rattle.flp_plan.specs.Shares.{SharesAddUp, EvenSharesAddUp};
+//! `specs/Limits.antt` and `specs/Sizes.antt`.
+ghost use Rattle.flp_syntax.specs.Linear.{IsLinear};
+ghost use Rattle.flp_meaning.specs.ProofLaws.{IsBounded};
+ghost use Rattle.flp_plan.specs.Limits.{CircuitIsWithin};
+ghost use Rattle.flp_plan.specs.Sizes.{AskAlike};
 
 use crate::plan::Plan;
 
-/// What the circuit of a plan makes of shares adds up to what it makes of their sums: each check, and each
-/// input of a call.
-pub fn shares_add_up(plan: &Plan)
-    ensures { SharesAddUp plan.now.circuit }
+/// The circuit of a plan is within the limits.
+pub fn is_within_limits(plan: &Plan)
+    ensures { CircuitIsWithin plan.now.circuit }
 {
     let _code = &plan.code;
 }
 
-/// Shares whose units are each the inverse of their number are shares of the sums of their words and answers,
-/// with the unit 1.
-pub fn even_shares_add_up()
-    ensures { EvenSharesAddUp }
-{}
-
-/// The circuit of a plan is within the limits.
-pub fn is_within_limits(plan: &Plan)
-    ensures { IsWithinLimits plan.now.circuit }
+/// So it is one of which the laws of proofs speak.
+pub fn is_bounded(plan: &Plan)
+    ensures { IsBounded plan.now.circuit }
 {
     let _code = &plan.code;
 }
@@ -33,3 +27,9 @@ pub fn is_linear(plan: &Plan)
 {
     let _code = &plan.code;
 }
+
+/// Plans that answer the same to `lengths`, `gadgets`, `checks`, `publics_len` and, for each gadget, `kind` and
+/// `calls` ask the same of working room. So room that was made for one of them serves the other.
+pub fn ask_alike()
+    ensures { AskAlike }
+{}

@@ -1,7 +1,7 @@
 //! How many words each part of a report has.
 ghost use Rattle.std.specs.Prelude.{◌≡◌, ◌≤◌, nat_lt, if◌then◌else◌};
 ghost use Rattle.flp_syntax.specs.View.{program_of};
-ghost use Rattle.flp_plan.specs.Counted.{lengths_of};
+ghost use Rattle.flp_plan.specs.Counted.{counted_lengths};
 ghost use Rattle.flp_plan.specs.Uses.{AreUsesOf};
 ghost use Rattle.flp_plan.specs.Sums.{AreSumsOf};
 
@@ -31,7 +31,7 @@ pub struct Lengths {
 pub(crate) fn lengths_for(checked: &Checked, uses: &[GadgetUse], sums: Sums) -> Lengths
     requires uses { AreUsesOf (program_of checked.now.body) uses.now }
     requires sums { AreSumsOf uses.now sums }
-    ensures { result ≡ lengths_of (program_of checked.now.body) }
+    ensures { result ≡ counted_lengths (program_of checked.now.body) }
 {
     let gadgets = uses.len() as u32;
     Lengths {

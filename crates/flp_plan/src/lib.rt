@@ -7,9 +7,9 @@
 //!
 //! Contracts see a plan as the circuit from which it came, beside the steps of its public values
 //! (`specs/View.antt`). What the circuit means, and how many words and calls it has, is said in flp_meaning. The
-//! laws of shares and the limits that the circuit of a plan keeps are the contracts of the functions in [`laws`].
+//! limits that the circuit of a plan keeps are the contracts of the functions in [`laws`].
 //!
-//! [`compile`] alone takes memory.
+//! [`compile`] and [`Plan::sizes`] alone take memory.
 //!
 //! A plan is the compiled form of what the chapter "Fully Linear Proofs" of the VDAF draft of the IETF calls a
 //! validity circuit, after Boneh et al., "Zero-Knowledge Proofs on Secret-Shared Data via Fully Linear PCPs",
@@ -24,10 +24,15 @@ pub mod laws;
 mod lengths;
 mod numbers;
 mod plan;
+mod reading;
+mod rows;
+mod sizes;
 
 pub use compiler::compile;
 pub use fault::{PlanCounted, PlanFault};
 pub use lengths::Lengths;
 pub use plan::Plan;
+pub use reading::Reading;
+pub use sizes::{GadgetSize, Sizes};
 /// Want of memory.
 pub use std::alloc::AllocError as Memory;

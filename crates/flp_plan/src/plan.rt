@@ -1,8 +1,8 @@
 //! A compiled circuit, and what its calls answer.
 ghost use Rattle.std.specs.Prelude.{◌≡◌, ◌<◌, ℕ, List, [], Some, length, take, slice_get};
-ghost use Rattle.flp_meaning.specs.Circuit.{kind_of, checks_of, outs_of, answered};
+ghost use Rattle.flp_meaning.specs.Circuit.{kind_of, checks_of, outs_of, with_answers};
 ghost use Rattle.flp_meaning.specs.Gadgets.{arity_of, calls_made, log_of, call_count, call_gadget, call_number, check_count, out_count};
-ghost use Rattle.flp_plan.specs.Counted.{lengths_of};
+ghost use Rattle.flp_plan.specs.Counted.{counted_lengths};
 ghost use Rattle.flp_plan.specs.View.{publics_of, HasInputs};
 
 use crate::gadgets::GadgetUse;
@@ -31,7 +31,7 @@ pub struct Plan {
 impl Model for Plan {
     ghost use Rattle.std.specs.Prelude.{◌≡◌};
     ghost use Rattle.std.specs.Coded.{codes};
-    ghost use Rattle.flp_plan.specs.Codes.{coded_circuit};
+    ghost use Rattle.flp_syntax.specs.Codes.{coded_circuit};
     ghost use Rattle.flp_syntax.specs.View.{program_of};
     ghost use Rattle.flp_plan.specs.View.{Compiled};
     ghost use Rattle.flp_plan.specs.Plan.{IsPlanOf};
@@ -48,7 +48,7 @@ impl Model for Plan {
 impl Plan {
     /// How many words each part of a report has.
     pub fn lengths(&self) -> Lengths
-        ensures { result ≡ lengths_of self.now.circuit }
+        ensures { result ≡ counted_lengths self.now.circuit }
     {
         self.lengths
     }
@@ -149,10 +149,10 @@ impl Plan {
         requires words { length x.now ≡ self.now.circuit.meas }
         requires answers { length answers.now ≡ call_count self.now.circuit }
         requires room { length out.old ≡ arity_of self.now.circuit (call_gadget self.now.circuit call) }
-        ensures inputs { (joint : List ℕ) → publics.now ≡ publics_of self.now joint → HasInputs self.now.circuit (answered x.now joint unit answers.now) call out.new }
+        ensures inputs { (joint : List ℕ) → publics.now ≡ publics_of self.now joint → HasInputs self.now.circuit (with_answers x.now joint unit answers.now) call out.new }
 
         // They are the inputs also where the answers of this call and of later ones are others.
-        ensures earlier { (joint others : List ℕ) → publics.now ≡ publics_of self.now joint → take call others ≡ take call answers.now → HasInputs self.now.circuit (answered x.now joint unit others) call out.new }
+        ensures earlier { (joint others : List ℕ) → publics.now ≡ publics_of self.now joint → take call others ≡ take call answers.now → HasInputs self.now.circuit (with_answers x.now joint unit others) call out.new }
     {
         let call = self.code.calls.as_slice()[call as usize];
         let inputs = &self.code.inputs;
@@ -165,7 +165,7 @@ impl Plan {
         requires publics { length publics.now ≡ length self.now.steps }
         requires words { length x.now ≡ self.now.circuit.meas }
         requires answers { length answers.now ≡ call_count self.now.circuit }
-        ensures { (joint : List ℕ) → publics.now ≡ publics_of self.now joint → slice_get (checks_of self.now.circuit (answered x.now joint unit answers.now)) index ≡ Some result }
+        ensures { (joint : List ℕ) → publics.now ≡ publics_of self.now joint → slice_get (checks_of self.now.circuit (with_answers x.now joint unit answers.now)) index ≡ Some result }
     {
         form_at(
             self.code.checks.at(index as usize),

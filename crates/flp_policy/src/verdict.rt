@@ -25,16 +25,3 @@ impl Verdict {
         matches!(self, Verdict::Accepted)
     }
 }
-
-#[cfg(test)]
-mod tests {
-    use super::*;
-    use std::test::Fail;
-
-    #[test]
-    fn accepted_alone_counts(rt: HostRuntime) -> Result<(), Fail> {
-        assert_eq!(rt; Verdict::Accepted.is_accepted(), true);
-        assert_eq!(rt; Verdict::Rejected.is_accepted(), false);
-        Ok(())
-    }
-}

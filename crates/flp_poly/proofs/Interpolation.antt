@@ -16,7 +16,7 @@ use Rattle.flp_field.proofs.Order.{more_ones}
 use Rattle.flp_field.proofs.RootsOfUnity.{alpha-order, powers_apart, sum-of_root, sum-of_ones}
 use Rattle.flp_poly.specs.Polynomial.{value_at, values_on}
 use Rattle.flp_poly.specs.Interpolation.{Interpolates, inverse_root, inverse_size, interpolated}
-use Rattle.flp_poly.proofs.SumLemmas.{sum_to, sum_to-same, sum_to-zero, sum_to-plus, sum_to-times, sum_to-congruent, sum_to-suc}
+use Rattle.flp_field.proofs.SumLemmas.{sum_to, sum_to-same, sum_to-zero, sum_to-plus, sum_to-times, sum_to-congruent, sum_to-suc}
 use Rattle.flp_poly.proofs.Horner.{horner, value_at-horner, horner-append, horner_point}
 use Rattle.flp_poly.proofs.Vanishing.{values_determine, length-values_on, get_or-values_on}
 
@@ -52,7 +52,7 @@ summand_opened : (u b y h : ℕ) → u * (y + b * h) ≡ y * u + u * b * h
 summand_opened u b y h = omega arith
 
 -- the first value apart
-twice-cons : (size b u y : ℕ) (ys : List ℕ)
+pub twice-cons : (size b u y : ℕ) (ys : List ℕ)
     → twice size b u (y ∷ ys) ≡ y * power_sum u size + twice size b (u * b) ys
 twice-cons size b u y ys =
     sum_to-same (λ (j : ℕ). u ^ j * horner (y ∷ ys) (b ^ j))
@@ -63,15 +63,15 @@ twice-cons size b u y ys =
     ∙ sum_to-plus (λ (j : ℕ). y * u ^ j) (λ (j : ℕ). (u * b) ^ j * horner ys (b ^ j)) size
     ∙ ap (λ (s : ℕ). s + twice size b (u * b) ys) (sum_to-times y (λ (j : ℕ). u ^ j) size)
 
-times_zero : (x : ℕ) → x * 0 ≡ 0
+pub times_zero : (x : ℕ) → x * 0 ≡ 0
 times_zero x = omega arith
 
-power_shifted : (u b i : ℕ) → u * b * b ^ i ≡ u * b ^ suc i
+pub power_shifted : (u b i : ℕ) → u * b * b ^ i ≡ u * b ^ suc i
 power_shifted u b i = let power : b ^ suc i ≡ b ^ i * b = pow-suc b i in
     let turned : u * (b ^ i * b) ≡ u * b * b ^ i = omega arith in
     sym turned ∙ ap (λ (x : ℕ). u * x) (sym power)
 
-start_power : (u b : ℕ) → u * b ^ 0 ≡ u
+pub start_power : (u b : ℕ) → u * b ^ 0 ≡ u
 start_power u b = ap (λ (x : ℕ). u * x) (pow-zero b) ∙ (omega arith)
 
 sum_parts : (y s a b c : ℕ) → Same s a → Same b c → Same (y * s + b) (y * a + c)
@@ -190,7 +190,7 @@ apart a b n i k order inverse i_below k_below other one =
 abbrev pub coefficient : ℕ → List ℕ → ℕ → ℕ
 coefficient n ys j = word_product (inverse_size n) (value_at ys (word_power (inverse_root n) j))
 
-coefficient_is : (n j : ℕ) (ys : List ℕ) → Same (coefficient n ys j) (inverse_size n * horner ys (inverse_root n ^ j))
+pub coefficient_is : (n j : ℕ) (ys : List ℕ) → Same (coefficient n ys j) (inverse_size n * horner ys (inverse_root n ^ j))
 coefficient_is n j ys =
     same_mod (inverse_size n * value_at ys (word_power (inverse_root n) j))
     ∙ same_mul (inverse_size n) (inverse_size n) (value_at ys (word_power (inverse_root n) j))
@@ -199,7 +199,7 @@ coefficient_is n j ys =
     ∙ same_mod (horner ys (word_power (inverse_root n) j))
     ∙ horner_point ys (word_power (inverse_root n) j) (inverse_root n ^ j) (same_mod (inverse_root n ^ j)))
 
-swapped_product : (s h u : ℕ) → s * h * u ≡ s * (u * h)
+pub swapped_product : (s h u : ℕ) → s * h * u ≡ s * (u * h)
 swapped_product s h u = omega arith
 
 unit_times : (s n y : ℕ) → Same (s * n) 1 → Same (s * (n * y)) y

@@ -6,7 +6,7 @@ use Rattle.std.proofs.lemmas.List.FromFn.{length-map-range_with_len, get_or-map-
 use Rattle.flp_field.specs.Word.{modulus, word_sum}
 use Rattle.flp_field.proofs.Congruence.{Same, same_add, same_mul, same_mod}
 use Rattle.flp_poly.specs.Polynomial.{value_at, HasDegreeAtMost, poly_sum, poly_product, product_coefficient}
-use Rattle.flp_poly.proofs.SumLemmas.{sum_to, sum_to-suc, sum_to-first, sum_to-same, sum_to-flat, sum_to-zero}
+use Rattle.flp_field.proofs.SumLemmas.{sum_to, sum_to-suc, sum_to-first, sum_to-same, sum_to-flat, sum_to-zero}
 use Rattle.flp_poly.proofs.Horner.{horner, value_at-horner, horner_same}
 
 -- ---- by recursion, with no remainder taken

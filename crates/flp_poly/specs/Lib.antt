@@ -4,3 +4,5 @@ pub mod Polynomial
 pub mod PolynomialLaws
 -- the polynomial through values on a domain
 pub mod Interpolation
+-- the weights of a domain's points at another point
+pub mod Weights

@@ -1,9 +1,11 @@
 //! The laws of polynomials, each the contract of a function that does nothing. A caller's proof takes
-//! the law from here; the definitions are in `specs/PolynomialLaws.antt` and `specs/Interpolation.antt`.
+//! the law from here; the definitions are in `specs/PolynomialLaws.antt`, `specs/Interpolation.antt` and
+//! `specs/Weights.antt`.
 ghost use Rattle.flp_poly.specs.PolynomialLaws.{SumHasValue, ProductHasValue, SumHasDegree, ProductHasDegree};
 ghost use Rattle.flp_poly.specs.PolynomialLaws.{RemainderIsValue, QuotientExists, QuotientIsUnique};
 ghost use Rattle.flp_poly.specs.PolynomialLaws.{RootCount, AgreementIsEquality, ValuesDetermine};
 ghost use Rattle.flp_poly.specs.Interpolation.{InterpolationExists, InterpolationIsUnique, DomainHasInverses};
+ghost use Rattle.flp_poly.specs.Weights.{WeightsGiveValue};
 
 /// The value of a sum is the sum of the values, and its degree is at most that of both.
 pub fn sums()
@@ -47,4 +49,10 @@ pub fn interpolation()
     ensures exists { InterpolationExists }
     ensures unique { InterpolationIsUnique }
     ensures inverses { DomainHasInverses }
+{}
+
+/// The value at a point of the polynomial through values on a domain is their inner product with the weights
+/// of the domain's points at that point.
+pub fn weights()
+    ensures { WeightsGiveValue }
 {}

@@ -6,6 +6,9 @@
 //! some coefficient but 0 has d different roots at most, on which the soundness of a proof rests, and that
 //! values on a domain are those of one polynomial (`specs/Interpolation.antt`), whose transforms flp_ntt has.
 //!
+//! [`eval`] is Horner's rule; where many values are wanted at one point, [`write_powers`] and [`eval_by`] share the
+//! powers of the point.
+//!
 //! No call takes memory: results go to the slice that the caller lends.
 #![tactic(auto)]
 
@@ -13,10 +16,9 @@ mod arithmetic;
 mod division;
 mod evaluation;
 pub mod laws;
+mod powers;
 
 pub use arithmetic::{add, mul};
 pub use division::divide_root;
 pub use evaluation::eval;
-
-#[cfg(test)]
-mod tests;
+pub use powers::{eval_by, write_powers};

@@ -1,5 +1,6 @@
-pub mod Once
-pub mod Lists
-pub mod Walking
-pub mod Forking
-pub mod RangeSums
+mod Once
+mod Lists
+mod Walking
+mod Forking
+mod RangeSums
+mod Taking

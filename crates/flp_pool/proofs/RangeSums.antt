@@ -1,5 +1,5 @@
 -- Sums over numbers that are a range's, in whatever order they stand.
-use Rattle.std.proofs.Common.{◌≡◌, ℕ, zero, suc, ◌+◌, ◌-◌, ◌*◌, ◌<◌, ◌≤◌, ◌≢◌, Bool, true, false, cond, ◌==◌, Option, Some, None, List, [], ◌∷◌, ◌++◌, get_or, sum_by, sym, refl, ap, ap₂, ◌∙◌, subst, ⊎_elim, arith, eq-eqb, ne_eqb, add-mul, one-mul, zero-mul, zero-add}
+use Rattle.std.proofs.Common.{◌≡◌, ℕ, zero, suc, ◌+◌, ◌-◌, ◌<◌, ◌≤◌, ◌≢◌, Bool, cond, ◌==◌, Option, Some, None, List, [], ◌∷◌, get_or, sum_by, sym, refl, ap, ◌∙◌, ⊎_elim, arith, eq-eqb, ne_eqb, zero-add}
 use Rattle.std.specs.List.{range_with_len}
 use Rattle.std.proofs.lemmas.List.Sums.{sum_by-cons, sum_by-append}
 use mathlib.Core.Logic.{dite}
@@ -7,7 +7,6 @@ use native.Mathlib.Decide.{ℕ_discrete}
 use Rattle.flp_tally.specs.Views.{times}
 use Rattle.flp_tally.specs.Rows.{column_sum}
 use Rattle.flp_pool.specs.Work.{row_at, rows_of}
-use Rattle.flp_pool.specs.Range.{once, EachOnce}
 use Rattle.flp_pool.specs.Laws.{RangesFollow, SumsOfRange, word_of, RowSums}
 use Rattle.flp_pool.proofs.Once.{once_where, once_in, once_parts}
 use Rattle.flp_pool.proofs.Lists.{times-append}

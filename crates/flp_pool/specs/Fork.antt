@@ -4,7 +4,7 @@ use Rattle.flp_tally.specs.declared.view.View.{View}
 use Rattle.flp_tally.specs.Views.{times}
 use Rattle.flp_tally.specs.Held.{Held, Board, IsSeatOf}
 use Rattle.flp_pool.specs.Work.{EachDid, Ready}
-use Rattle.flp_pool.specs.Range.{once, took, HasRange}
+use Rattle.flp_pool.specs.Range.{once, with_run, HasRange}
 
 -- a seat of the tally with a weight of at least n
 abbrev pub HasSeat : Board → ℕ → Option Held → Type 0
@@ -17,13 +17,14 @@ pub record RanPart {S : Type 0} (room : S → ℕ) (done : S → List ℕ) (righ
   pub lists : List (List ℕ)
   pub claimed : List ℕ
   pub seen : List ℕ
+  pub missed : List ℕ
   pub did : EachDid room done right before after lists
   pub few : All (λ l. length l ≤ hi - lo) lists
   pub together : (x : ℕ) → sum_by (λ l. times x l) lists ≡ times x claimed
   pub inside : (x : ℕ) → once lo hi x ≡ 0 → times x claimed ≡ 0
   pub met : (x : ℕ) → once lo hi x ≡ 1 → 1 ≤ times x claimed + times x seen
   pub whole : v.weight ≡ v.full → (x : ℕ) → once lo hi x ≡ 1 → times x v.claimed ≡ 0 → times x claimed ≡ 1
-  pub view : w ≡ took row_of v claimed seen
+  pub view : w ≡ with_run row_of v claimed seen missed
 
 -- the same of the seat in a slot, which is there before and after
 abbrev pub RanIn : {S : Type 0} → (S → ℕ) → (S → List ℕ) → (S → Type 0) → (ℕ → Option (List ℕ)) → ℕ → ℕ → Option Held → Option Held → List S → List S → Type 0

@@ -1,14 +1,27 @@
 -- Laws for whoever runs several ranges and closes the tally: how runs follow one another, and what the rows of a range come to.
-use Rattle.std.specs.Prelude.{◌≡◌, ℕ, ◌-◌, ◌≤◌, Option, Some, None, List, ◌++◌, slice_index, sum_by}
+use Rattle.std.specs.Prelude.{◌≡◌, ℕ, ◌-◌, ◌<◌, ◌≤◌, Option, Some, None, List, ◌++◌, slice_index, sum_by}
 use Rattle.std.specs.List.{range_with_len}
 use Rattle.flp_tally.specs.declared.view.View.{View}
 use Rattle.flp_tally.specs.Rows.{column_sum}
 use Rattle.flp_pool.specs.Work.{rows_of}
-use Rattle.flp_pool.specs.Range.{EachOnce, took}
+use Rattle.flp_pool.specs.Range.{EachOnce, TakesRange}
 
--- what was taken in two runs was taken in one
-abbrev pub TakenTogether : Type 0
-TakenTogether = (row_of : ℕ → Option (List ℕ)) (v : View) (xs ys xs' ys' : List ℕ) → took row_of (took row_of v xs ys) xs' ys' ≡ took row_of v (xs ++ xs') (ys ++ ys')
+-- two works bring the same rows from lo up to hi
+abbrev pub RowsAgree : (ℕ → Option (List ℕ)) → (ℕ → Option (List ℕ)) → ℕ → ℕ → Type 0
+RowsAgree f g lo hi = (x : ℕ) → lo ≤ x → x < hi → f x ≡ g x
+
+-- a run of one work is a run of any other that brings the same rows there
+abbrev pub AgreeingRuns : Type 0
+AgreeingRuns = (f g : ℕ → Option (List ℕ)) (lo hi : ℕ) (v w : View) → RowsAgree f g lo hi → TakesRange f lo hi v w → TakesRange g lo hi v w
+
+-- over no numbers a seat that does nothing took all
+abbrev pub EmptyRuns : Type 0
+EmptyRuns = (row_of : ℕ → Option (List ℕ)) (lo : ℕ) (v : View) → TakesRange row_of lo lo v v
+
+-- A run over each of two neighbouring ranges, each by a work of its own, is one run over both by a work that brings the same
+-- rows there.
+abbrev pub JoinedRuns : Type 0
+JoinedRuns = (f g h : ℕ → Option (List ℕ)) (a b c : ℕ) (u v w : View) → a ≤ b → b ≤ c → RowsAgree f h a b → RowsAgree g h b c → TakesRange f a b u v → TakesRange g b c v w → TakesRange h a c u w
 
 -- two ranges of which one follows the other are one
 abbrev pub RangesFollow : Type 0

@@ -21,16 +21,21 @@ LacksRange lo hi xs = (x : ℕ) → lo ≤ x → x < hi → times x xs ≡ 0
 abbrev pub HasRange : (ℕ → Type 0) → (ℕ → Option (List ℕ)) → ℕ → ℕ → ℕ → Type 0
 HasRange takes row_of elements lo hi = (x : ℕ) → lo ≤ x → x < hi → takes x × ((row : List ℕ) → row_of x ≡ Some row → length row ≡ elements)
 
--- the view has claimed xs and seen ys besides, and has added exactly the rows of xs
-abbrev pub took : (ℕ → Option (List ℕ)) → View → List ℕ → List ℕ → View
-took row_of v xs ys = record v { claimed = v.claimed ++ xs; seen = v.seen ++ ys; added = v.added ++ rows_entries (rows_of row_of xs) }
+-- the view has claimed xs, seen ys and missed zs besides, and has added exactly the rows of xs
+abbrev pub with_run : (ℕ → Option (List ℕ)) → View → List ℕ → List ℕ → List ℕ → View
+with_run row_of v xs ys zs = record v { claimed = v.claimed ++ xs; seen = v.seen ++ ys; missed = v.missed ++ zs; added = v.added ++ rows_entries (rows_of row_of xs) }
 
--- A run: which numbers were done in each state, which the seat claimed, and which it saw as claimed.
-pub record Ran {S : Type 0} (room : S → ℕ) (done : S → List ℕ) (right : S → Type 0) (row_of : ℕ → Option (List ℕ)) (lo hi : ℕ) (v w : View) (before after : List S) : Type 0 where
-  pub lists : List (List ℕ)
+-- What a run does to its seat: each number from lo up to hi was claimed once and no other, and exactly the rows of these were added.
+pub record TakesRange (row_of : ℕ → Option (List ℕ)) (lo hi : ℕ) (v w : View) : Type 0 where
   pub claimed : List ℕ
   pub seen : List ℕ
+  pub missed : List ℕ
+  pub each_once : EachOnce lo hi claimed
+  pub view : w ≡ with_run row_of v claimed seen missed
+
+-- A run: which numbers were done in each state, each once in one of them, and what its seat took.
+pub record Ran {S : Type 0} (room : S → ℕ) (done : S → List ℕ) (right : S → Type 0) (row_of : ℕ → Option (List ℕ)) (lo hi : ℕ) (v w : View) (before after : List S) : Type 0 where
+  pub lists : List (List ℕ)
   pub did : EachDid room done right before after lists
   pub each_once : (x : ℕ) → sum_by (λ l. times x l) lists ≡ once lo hi x
-  pub claimed_once : EachOnce lo hi claimed
-  pub view : w ≡ took row_of v claimed seen
+  pub taken : TakesRange row_of lo hi v w

@@ -7,12 +7,12 @@
 #![tactic(auto)]
 
 mod gate;
-mod laws;
+pub mod laws;
 mod range;
+mod span;
 mod walk;
 mod work;
 
 pub use gate::{Gate, NoGate};
-pub use laws::{ranges_follow, row_sums, run_sums, runs_join};
 pub use range::run_range;
 pub use work::Work;

@@ -1,5 +1,5 @@
 //! The fork of a seat to workers, and the run over a range.
-ghost use Rattle.std.specs.Prelude.{◌≡◌, ◌+◌, ◌-◌, ◌*◌, ◌/◌, ◌<◌, ◌≤◌, ℕ, length, Some, sum_by};
+ghost use Rattle.std.specs.Prelude.{◌≡◌, ◌+◌, ◌-◌, ◌<◌, ◌≤◌, ℕ, length, Some, sum_by};
 ghost use denote.Param.Send.{IsSend};
 ghost use Rattle.std.specs.Thread.{IsSync};
 ghost use Rattle.flp_tally.specs.Held.{IsSeatOf};
@@ -8,23 +8,17 @@ ghost use Rattle.flp_pool.specs.Range.{HasRange, LacksRange, Ran};
 ghost use Rattle.flp_pool.specs.Fork.{MayRun, RanIn};
 
 use crate::gate::Gate;
+use crate::span::Span;
 use crate::walk::walk_round;
 use crate::work::Work;
 use flp_tally::{Seat, Tally};
 use std::thread::{Threads, join_mut};
 
-/// The numbers that all workers of a run share.
-#[derive(Clone, Copy)]
-pub(crate) struct Span {
-    workers: u32,
-    lo: u32,
-    hi: u32,
-}
-
 /// Does each number from `lo` up to `hi` once, by as many workers as there are states, and gives the seat back.
 ///
 /// Each worker enters the gate once with its number, and then walks the range from a start of its own, doing the
-/// numbers that it claims and adding their rows under them. A worker for which no thread can be started is run by the
+/// numbers that it claims and adding their rows under them. In its own part of the range it claims each number; what
+/// others began it claims only where a look finds it free. A worker for which no thread can be started is run by the
 /// caller itself. No memory is taken.
 ///
 /// There are 1 to 16 workers, and no more than the seat has weight. The seat holds the full weight and has claimed no
@@ -87,16 +81,7 @@ fn run_from<R: Threads + Sync, S: Send, W: Work<State = S>, G: Gate>(
     };
     if states.len() == 1 {
         gate.enter(first);
-        let start = start_of(span, first);
-        walk_round(
-            work,
-            tally,
-            span.lo,
-            start,
-            span.hi,
-            &mut seat,
-            &mut states[0],
-        );
+        walk_round(work, tally, span, first, &mut seat, &mut states[0]);
         *slot = Some(seat);
         return;
     }
@@ -154,17 +139,3 @@ fn run_both<R: Threads + Sync, S: Send, W: Work<State = S>, G: Gate>(
     { run_from(rt, work, tally, gate, span, second, two, b) };
     join_mut(rt, &mut left, &mut right);
 }
-
-/// Where in the range a worker starts, so that the workers are spread over it.
-fn start_of(span: Span, worker: u32) -> u32
-    requires range { span.lo ≤ span.hi }
-    requires worker { worker < span.workers }
-    ensures from { span.lo ≤ result }
-    ensures to { result ≤ span.hi }
-    ensures spread { result ≡ span.lo + (span.hi - span.lo) * worker / span.workers }
-{
-    span.lo + ((span.hi - span.lo) as u64 * worker as u64 / span.workers as u64) as u32
-}
-
-#[cfg(test)]
-mod tests;

@@ -1,6 +1,4 @@
--- digits, proof after proof
+-- digits that are the same, proof after proof
 pub mod DigitLemmas
 -- the line of a record
 pub mod LineLemmas
--- faults of the file
-pub mod FaultLemmas

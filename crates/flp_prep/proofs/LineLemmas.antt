@@ -1,5 +1,6 @@
 -- The line of a record, and the lines of a walk.
-use Rattle.std.proofs.Common.{◌≡◌, ℕ, ◌<◌, List, [], ◌++◌, ◌⊎◌, inl, inr, refl, ap, ap₂, ◌∙◌}
+use Rattle.std.proofs.Common.{◌≡◌, ℕ, ◌<◌, List, [], ◌++◌, ◌⊎◌, inl, inr, Result, Ok, Err, refl, ap, ap₂, ◌∙◌}
+use Rattle.std.specs.Prelude.{IfOk}
 use Rattle.std.specs.List.{flat_map}
 use Rattle.flp_report.specs.declared.shape.Shape.{Shape}
 use Rattle.flp_report.specs.Record.{nonce_in}
@@ -8,12 +9,11 @@ use Rattle.flp_policy.specs.declared.verdict.Verdict.TheVariants.{Accepted, Reje
 use Rattle.flp_worker.specs.Parts.{proof_numbers}
 use Rattle.flp_worker.specs.Verdict.{share_verifier}
 use Rattle.flp_batch.specs.Setting.{Setting}
-use Rattle.flp_batch.specs.Lines.{lines_of}
 use Rattle.flp_verdict.specs.declared.judging.Judging.{Judging}
 use Rattle.flp_verdict.specs.Verdicts.{verdict_after}
 use Rattle.flp_verdict.specs.Judging.{record_shape_of, verifier_of}
+use Rattle.flp_prep.specs.Text.{digits_of, verifier_digits, prep_line, line_for, prepared_line, words_by}
 use Rattle.flp_prep.specs.declared.preparing.Preparing.{Preparing}
-use Rattle.flp_prep.specs.Text.{digits_of, verifier_digits, prep_line, line_for, line_by, lines_by}
 use Rattle.flp_prep.specs.Preparing.{setting_of, party_of}
 use Rattle.flp_prep.proofs.DigitLemmas.{flat_map-same}
 
@@ -40,14 +40,15 @@ pub line-made : (by : Setting) (party : ℕ) (earlier : List (List ℕ)) (report
     → empty ≡ [] → line ≡ empty ++ line_for nonce digits verdict → nonce ≡ nonce_in report
     → verdict ≡ verdict_after by.circuit by.shape by.claims earlier report
     → ((verdict ≡ Accepted) ⊎ (verdict ≡ Rejected) → digits ≡ verifier_digits by party report)
-    → line ≡ line_by by party earlier report
+    → line ≡ prepared_line party by earlier report
 line-made by party earlier report nonce digits empty line verdict cleared made named judged same =
     made
     ∙ (ap (λ (l : List ℕ). l ++ line_for nonce digits verdict) cleared
     ∙ (line_for-digits nonce digits (verifier_digits by party report) verdict same
     ∙ ap₂ (λ (n : List ℕ) (v : Verdict). line_for n (verifier_digits by party report) v) named judged))
 
--- the lines of a walk are those of its setting
-pub lines-same : (p : Preparing) (by : Setting) (party : ℕ) → setting_of p ≡ by → party_of p ≡ party → (reports : List (List ℕ))
-    → lines_of (line_by (setting_of p) (party_of p)) reports ≡ lines_by party by reports
-lines-same p by party same own reports = ap₂ (λ (s : Setting) (k : ℕ). lines_of (line_by s k) reports) same own
+-- what is written of records is that of their setting
+pub words-same : {E : Type 0} (made : Result Preparing E) (by : Setting) (party : ℕ) → IfOk made (λ p. setting_of p ≡ by) → IfOk made (λ p. party_of p ≡ party)
+    → IfOk made (λ p. words_by (party_of p) (setting_of p) ≡ words_by party by)
+words-same (Ok p) by party same own = ap₂ words_by own same
+words-same (Err e) by party same own = tt

@@ -20,5 +20,5 @@ abbrev pub digits_kept : Preparing → List ℕ
 digits_kept p = flat_map (λ proof. digits_of (verifier_of p.judging p.party proof)) (proof_numbers (record_shape_of p.judging))
 
 -- exactly these records were judged, in this order
-abbrev pub Prepares : Preparing → List (List ℕ) → Type 0
-Prepares p reports = Follows p.judging reports
+abbrev pub HasPrepared : Preparing → List (List ℕ) → Type 0
+HasPrepared p reports = Follows p.judging reports

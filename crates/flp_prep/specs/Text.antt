@@ -9,9 +9,9 @@ use Rattle.flp_policy.specs.declared.verdict.Verdict.TheVariants.{Accepted, Reje
 use Rattle.flp_worker.specs.Parts.{proof_numbers}
 use Rattle.flp_worker.specs.Verdict.{share_verifier}
 use Rattle.flp_verdict.specs.Verdicts.{verdict_after}
-use Rattle.flp_verdict.specs.Text.{line_with}
+use Rattle.flp_verdict.specs.Text.{spelled, line_with}
 use Rattle.flp_batch.specs.Setting.{Setting}
-use Rattle.flp_batch.specs.Lines as lines
+use Rattle.flp_batch.specs.Lines.{Wording, lines_of}
 
 -- the digits of a word: its 8 bytes, the lowest first, each in two hexadecimal digits
 unfoldable pub word_digits : ℕ → List ℕ
@@ -26,24 +26,28 @@ abbrev pub verifier_digits : Setting → (party : ℕ) → (report : List ℕ) �
 verifier_digits by party report =
     flat_map (λ proof. digits_of (share_verifier by.circuit by.shape report party proof)) (proof_numbers by.shape)
 
--- the line of a record that was accepted or rejected: a nonce in hexadecimal digits, and digits
+-- the line of a record that was accepted or rejected: digits behind its nonce
 abbrev pub prep_line : (nonce digits : List ℕ) → List ℕ
-prep_line nonce digits = encode_lower nonce ++ codes " prep " ++ digits ++ codes "\n"
+prep_line nonce digits = line_with nonce (codes "prep " ++ digits)
 
 -- the line of a record with this verdict: of every other record that of `verify`
 abbrev pub line_for : (nonce digits : List ℕ) → Verdict → List ℕ
 line_for nonce digits Accepted = prep_line nonce digits
 line_for nonce digits Rejected = prep_line nonce digits
-line_for nonce digits verdict = line_with nonce verdict
+line_for nonce digits verdict = line_with nonce (spelled verdict)
 
 -- the line of a record behind earlier ones
-abbrev pub line_by : Setting → (party : ℕ) → (earlier : List (List ℕ)) → (report : List ℕ) → List ℕ
-line_by by party earlier report =
+abbrev pub prepared_line : (party : ℕ) → Setting → (earlier : List (List ℕ)) → (report : List ℕ) → List ℕ
+prepared_line party by earlier report =
     line_for
     (nonce_in report)
     (verifier_digits by party report)
     (verdict_after by.circuit by.shape by.claims earlier report)
 
 -- the lines of all records
-abbrev pub lines_by : (party : ℕ) → Setting → (reports : List (List ℕ)) → List ℕ
-lines_by party by reports = lines.lines_of (line_by by party) reports
+abbrev pub prepared_lines : (party : ℕ) → Setting → (reports : List (List ℕ)) → List ℕ
+prepared_lines party by reports = lines_of (prepared_line party by) reports
+
+-- all that is written
+abbrev pub words_by : (party : ℕ) → Setting → Wording
+words_by party by = record { line = prepared_line party by; text = prepared_lines party by }

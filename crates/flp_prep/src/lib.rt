@@ -7,8 +7,6 @@
 
 mod command;
 mod preparing;
-#[cfg(test)]
-mod tests;
 mod text;
 
 pub use command::prep;

@@ -5,12 +5,12 @@ ghost use Rattle.flp_worker.specs.Worker.{IsShapeOf};
 ghost use Rattle.flp_verdict.specs.Judging.{record_shape_of};
 
 use crate::Memory;
-use crate::text::{push_head, push_words};
+use crate::text::push_words;
 use flp_batch::Judge;
 use flp_plan::Plan;
 use flp_policy::Verdict;
 use flp_report::{Nonces, Record, Shape};
-use flp_verdict::{Judging, push_line};
+use flp_verdict::{Judging, push_line, push_nonce};
 use std::alloc::{AllocError, Global};
 
 /// Judges records in their order, and tells of each the verifier words of one party's share.
@@ -25,7 +25,7 @@ pub(crate) struct Preparing<'a> {
 
 impl<'a> Preparing<'a> {
     ghost use Rattle.flp_prep.specs.Text.{prep_line, line_for};
-    ghost use Rattle.flp_prep.specs.Preparing.{setting_of, party_of, digits_kept, Prepares};
+    ghost use Rattle.flp_prep.specs.Preparing.{setting_of, party_of, digits_kept, HasPrepared};
 
     /// Before the first record of a batch with this circuit, shape and old claims.
     pub(crate) fn new(
@@ -39,7 +39,7 @@ impl<'a> Preparing<'a> {
         requires own_share { party < shape.now.shares }
         ensures setting { IfOk result (λ p. setting_of p ≡ record { circuit = plan.now.circuit; shape = shape.now; claims = nonces_in claims.now }) }
         ensures party { IfOk result (λ p. party_of p ≡ party) }
-        ensures fresh { IfOk result (λ p. Prepares p []) }
+        ensures fresh { IfOk result (λ p. HasPrepared p []) }
     {
         let judging = Judging::new(alloc, plan, shape, claims)?;
         Ok(Preparing {
@@ -64,7 +64,8 @@ impl<'a> Preparing<'a> {
         requires { length nonce.now ≡ 16 }
         ensures { OnOk result (line.new.items ≡ line.old.items ++ prep_line nonce.now (digits_kept self.now)) }
     {
-        push_head(line, nonce)?;
+        push_nonce(line, nonce)?;
+        line.extend_from_slice(b"prep ")?;
         self.push_verifiers(line)?;
         line.extend_from_slice(b"\n")?;
         Ok(())
@@ -90,20 +91,25 @@ impl<'a> Preparing<'a> {
 }
 
 impl<'a> Judge for Preparing<'a> {
-    ghost use Rattle.flp_prep.specs.Text.{line_by};
-    ghost use Rattle.flp_prep.specs.Preparing.{setting_of, party_of, Prepares};
+    ghost use Rattle.flp_prep.specs.Text.{words_by};
+    ghost use Rattle.flp_prep.specs.Preparing.{setting_of, party_of, HasPrepared};
 
-    ghost setting = { setting_of };
+    ghost record_shape = { λ p. (setting_of p).shape };
 
-    ghost line_of = { λ p. line_by (setting_of p) (party_of p) };
+    ghost wording = { λ p. words_by (party_of p) (setting_of p) };
 
-    ghost follows = { Prepares };
+    ghost follows = { HasPrepared };
 
-    ghost judged = { λ _. 0 };
+    ghost count = { λ _. 0 };
 
     fn judge(&mut self, given: &Record, line: &mut Vec<u8>) -> Result<(), AllocError> {
         let verdict = self.judging.judge(given)?;
         line.clear();
         self.push_line_for(line, given.nonce(), verdict)
+    }
+
+    fn end(&self, ending: &mut Vec<u8>) -> Result<(), AllocError> {
+        ending.clear();
+        Ok(())
     }
 }

@@ -1,22 +1,9 @@
-//! The parts of the line of a record that was accepted or rejected, each appended to a buffer.
-ghost use Rattle.std.specs.Prelude.{◌≡◌, ◌++◌, length, codes, OnOk};
-ghost use Rattle.hex.specs.Hex.{encode_lower};
+//! The digits of verifier words, each appended to a buffer.
+ghost use Rattle.std.specs.Prelude.{◌≡◌, ◌++◌, OnOk};
 ghost use Rattle.flp_prep.specs.Text.{word_digits, digits_of};
 
 use crate::Memory;
 use flp_field::Fe;
-
-/// Appends a nonce of 16 bytes in hexadecimal digits, and the word `prep` behind it.
-pub(crate) fn push_head(line: &mut Vec<u8>, nonce: &[u8]) -> Result<(), Memory>
-    requires { length nonce.now ≡ 16 }
-    ensures { OnOk result (line.new.items ≡ line.old.items ++ (encode_lower nonce.now ++ codes " prep ")) }
-{
-    let mut digits = [0; 32];
-    hex::encode_to_slice(nonce, &mut digits).unwrap();
-    line.extend_from_slice(&digits)?;
-    line.extend_from_slice(b" prep ")?;
-    Ok(())
-}
 
 /// Appends the hexadecimal digits of the 8 bytes of a word, the lowest first.
 #[tactic(auto, unfolding(crate::specs::Text::word_digits))]

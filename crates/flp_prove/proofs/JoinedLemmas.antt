@@ -1,15 +1,13 @@
 -- Lists of words in one: what stands where.
-use Rattle.std.proofs.Common.{ℕ, zero, suc, ◌≡◌, ◌+◌, ◌*◌, ◌<◌, ◌≤◌, List, [], ◌∷◌, ◌++◌, length, take, map, get_or, refl, ap, sym, ◌∙◌, arith, length-append, ⊎_elim}
+use Rattle.std.proofs.Common.{ℕ, zero, suc, ◌≡◌, ◌+◌, ◌*◌, ◌<◌, ◌≤◌, List, [], ◌∷◌, ◌++◌, length, take, map, get_or, refl, ap, sym, ◌∙◌, arith}
 use Rattle.std.specs.List.{range_with_len}
 use Rattle.std.specs.Prelude.{slice_index}
-use Rattle.std.proofs.lemmas.Bool.{cases_lt}
-use Rattle.std.proofs.lemmas.List.{length_push, get_or_push, append-nil, append_assoc, get_or_append_left, get_or-append-add, get_or_past}
+use Rattle.std.proofs.lemmas.List.{append-nil, append_assoc, get_or_append_left, get_or-append-add, get_or_past}
 use Rattle.std.proofs.lemmas.List.FromFn.{map-range_with_len_more, length-map-range_with_len, get_or-map-range_with_len}
 use Rattle.std.proofs.lemmas.Slice.{take-put_mid}
 use borrow.Rule.Slice.PartMut.{put_mid}
-use Rattle.flp_meaning.specs.Meaning.{Call}
-use Rattle.flp_meaning.specs.Wires.{inputs_at}
-use Rattle.flp_prove.specs.Rows.{joined, seeds_and_inputs, HaveLength, column}
+use Rattle.flp_plan.specs.Rows.{column}
+use Rattle.flp_prove.specs.Rows.{joined, HaveLength}
 
 pub joined-push : (parts : List (List ℕ)) (part : List ℕ) → joined (parts ++ part ∷ []) ≡ joined parts ++ part
 joined-push [] part = append-nil part
@@ -32,38 +30,10 @@ joined-at size (part ∷ parts) (suc i) k sizes low =
     ∙ get_or-append-add part (joined parts) (i * size + k) 0
     ∙ joined-at size parts i k (λ n h. sizes (suc n) (omega arith)) low
 
-pub length-joined : (size : ℕ) (parts : List (List ℕ)) → HaveLength size parts → length (joined parts) ≡ length parts * size
-length-joined size [] sizes = omega arith
-length-joined size (part ∷ parts) sizes =
-    let own : length part ≡ size = sizes 0 (omega arith) in
-    let rest : length (joined parts) ≡ length parts * size = length-joined size parts (λ n h. sizes (suc n) (omega arith)) in
-    length-append part (joined parts) ∙ omega arith
-
 -- one more part of a function of the index
 pub joined-more : (f : ℕ → List ℕ) (n : ℕ) → joined (map f (range_with_len 0 (n + 1))) ≡ joined (map f (range_with_len 0 n)) ++ f n
 joined-more f n =
     ap joined (map-range_with_len_more f 0 n n (omega arith)) ∙ joined-push (map f (range_with_len 0 n)) (f n)
-
--- of the seeds and inputs, the words of one input are what its wire runs through
-pub seeds_and_inputs-at : (seeds : List ℕ) (calls : List Call) (point input : ℕ)
-    → slice_index (get_or (seeds_and_inputs seeds calls) point []) input ≡ slice_index (slice_index seeds input ∷ inputs_at input calls) point
-seeds_and_inputs-at seeds calls zero input = refl
-seeds_and_inputs-at seeds calls (suc point) input = inputs-same calls point input where
-  inputs-same : (calls : List Call) (point input : ℕ)
-      → slice_index (get_or (map (λ (call : Call). call.inputs) calls) point []) input ≡ slice_index (inputs_at input calls) point
-  inputs-same [] point input = refl
-  inputs-same (call ∷ calls) zero input = refl
-  inputs-same (call ∷ calls) (suc point) input = inputs-same calls point input
-
-pub length-push : (size : ℕ) (parts : List (List ℕ)) (part : List ℕ) → HaveLength size parts → length part ≡ size → HaveLength size (parts ++ part ∷ [])
-length-push size parts part sizes own k low =
-    let count : length (parts ++ part ∷ []) ≡ length parts + 1 = length_push parts part in
-    ⊎_elim
-    (λ (front : k < length parts). ap (λ (l : List ℕ). length l) (get_or_append_left parts (part ∷ []) [] k front) ∙ sizes k front)
-    (λ (past : length parts ≤ k).
-    let last : length parts ≡ k = omega arith in
-    ap (λ (l : List ℕ). length l) (get_or_push parts part [] k last) ∙ own)
-    (cases_lt k (length parts))
 
 -- ---- columns
 

@@ -1,39 +1,11 @@
--- The working room of a prover.
-use Rattle.std.proofs.Common.{ℕ, suc, ◌≡◌, ◌+◌, ◌-◌, ◌*◌, ◌^◌, ◌<◌, ◌≤◌, refl, ap, ap₂, subst, ◌∙◌, arith, length, lit<, ⊎_elim}
+-- The points on which a gadget is evaluated.
+use Rattle.std.proofs.Common.{ℕ, suc, ◌≡◌, ◌*◌, ◌^◌, ◌<◌, ◌≤◌, refl, ap, ◌∙◌, arith, lit<, ⊎_elim}
 use Rattle.std.specs.Int.{IsPowerOfTwo}
 use Rattle.std.specs.Prelude.{max, ◌/◌}
 use Rattle.std.proofs.Math.Nat.{pow-suc, pow-le-pow_right}
 use Rattle.std.proofs.lemmas.Bool.{cases_lt}
-use Rattle.flp_gadget.specs.KindTree.{KindTree}
-use Rattle.flp_gadget.specs.KindTree as tree
-use Rattle.flp_meaning.specs.Circuit.{kind_of}
-use Rattle.flp_meaning.specs.Gadgets.{calls_made, ceil_log}
+use Rattle.flp_meaning.specs.Gadgets.{ceil_log}
 use Rattle.flp_meaning.specs.ProofLaws.{LeastPower}
-use Rattle.flp_prove.specs.Room.{IsEnough, ServesAlike}
-
--- what is enough, by the kind of a gadget and its calls
-enough : (kind : KindTree) (calls rows wires values : ℕ) → Type 0
-enough kind calls rows wires values =
-    (2 ^ ceil_log (calls + 1) * tree.arity_of kind ≤ rows)
-    × (tree.arity_of kind * 2 ^ ceil_log (tree.degree_of kind * (2 ^ ceil_log (calls + 1) - 1) + 1) ≤ wires)
-    × (2 ^ ceil_log (tree.degree_of kind * (2 ^ ceil_log (calls + 1) - 1) + 1) ≤ values)
-
-pub serves_alike : ServesAlike
-unfolding enough
-serves_alike room one other alike serves = record {
-  publics = serves.publics ∙ alike.publics;
-  gadgets = λ gadget inside.
-      let here : gadget < length one.circuit.gadgets = omega (arith, alike.gadgets) in
-      let old : IsEnough one.circuit gadget room.rows room.wires room.values = serves.gadgets gadget here in
-      let same : enough (kind_of one.circuit gadget) (calls_made one.circuit gadget) room.rows room.wires room.values
-      ≡ enough (kind_of other.circuit gadget) (calls_made other.circuit gadget) room.rows room.wires room.values =
-      ap₂ (λ (kind : KindTree) (calls : ℕ). enough kind calls room.rows room.wires room.values) (alike.kinds gadget here) (alike.calls gadget here) in
-      let new : enough (kind_of other.circuit gadget) (calls_made other.circuit gadget) room.rows room.wires room.values =
-      subst (λ (T : Type 0). T) same (old.for_rows, old.for_wires, old.for_values) in
-      record { for_rows = new.0; for_wires = new.1; for_values = new.2 };
-}
-
--- ---- the points on which a gadget is evaluated
 
 -- a power of two that is at least a number, and half of which is not, is the least one
 pub least-is : (n p : ℕ) → LeastPower → 1 ≤ n → IsPowerOfTwo p → n ≤ p → p / 2 < max 1 n → p ≡ 2 ^ ceil_log n

@@ -1,61 +1,47 @@
 //! The parts of an honest proof, one for each gadget.
-ghost use Rattle.std.specs.Prelude.{◌≡◌, ℕ, ◌+◌, ◌<◌, ◌≤◌, List, length};
-ghost use Rattle.flp_gadget.specs.KindTree.{formula_of};
-ghost use Rattle.flp_meaning.specs.Circuit.{calls_of, direct, kind_of};
+ghost use Rattle.std.specs.Prelude.{◌≡◌, ℕ, ◌<◌, List, length};
 ghost use Rattle.flp_meaning.specs.Gadgets.{arity_of, call_count};
-ghost use Rattle.flp_meaning.specs.Lengths.{coefficient_count, proof_part};
+ghost use Rattle.flp_meaning.specs.Lengths.{proof_part};
 ghost use Rattle.flp_meaning.specs.MeaningLaws.{call_values};
 ghost use Rattle.flp_meaning.specs.Proof.{seeds_for, honest_part, honest_proof};
-ghost use Rattle.flp_meaning.specs.Wires.{wires_of};
-ghost use Rattle.flp_plan.specs.Counted.{lengths_of};
+ghost use Rattle.flp_plan.specs.Counted.{counted_lengths};
+ghost use Rattle.flp_plan.specs.Sizes.{sizes_of};
 ghost use Rattle.flp_plan.specs.View.{publics_of};
-ghost use Rattle.flp_prove.specs.Room.{IsEnough};
 
-use crate::reading::Reading;
-use crate::rows::write_rows;
-use crate::sizes::{arity, coefficients, domain_size, points};
-use crate::values::write_values;
-use crate::wires::write_wires;
+use crate::formula::WireRoom;
 use flp_field::Fe;
-use flp_ntt::inverse;
-use flp_plan::{Plan, laws};
+use flp_meaning::laws as meaning;
+use flp_plan::{Plan, Reading};
 
-/// Writes the parts of all gadgets, one after another.
-///
-/// The room is enough for each gadget, and holds anything afterwards.
+/// Writes the parts of all gadgets, one after another, of an unshared encoding and the values of its calls.
 pub(crate) fn write_parts(
     plan: &Plan,
     reading: &Reading,
     seeds: &[Fe],
-    inputs: &mut [Fe],
-    rows: &mut [Fe],
-    wires: &mut [Fe],
-    values: &mut [Fe],
+    room: &mut WireRoom,
     proof: &mut [Fe],
 )
     requires publics { length reading.now.publics.now ≡ length plan.now.steps }
     requires x { length reading.now.x.now ≡ plan.now.circuit.meas }
     requires answers { length reading.now.answers.now ≡ call_count plan.now.circuit }
-    requires seeds { length seeds.now ≡ (lengths_of plan.now.circuit).prove }
-    requires inputs { length inputs.old ≡ 1024 }
-    requires room { (gadget : ℕ) → gadget < length plan.now.circuit.gadgets → IsEnough plan.now.circuit gadget (length rows.old) (length wires.old) (length values.old) }
-    requires proof { length proof.old ≡ (lengths_of plan.now.circuit).proof }
-    ensures { (joint : List ℕ) → reading.now.publics.now ≡ publics_of plan.now joint → reading.now.answers.now ≡ call_values plan.now.circuit reading.now.x.now joint → proof.new ≡ honest_proof plan.now.circuit reading.now.x.now joint seeds.now }
+    requires unit { reading.now.unit ≡ 1 }
+    requires seeds { length seeds.now ≡ (counted_lengths plan.now.circuit).prove }
+    requires made { room.old ≡ sizes_of plan.now }
+    requires proof { length proof.old ≡ (counted_lengths plan.now.circuit).proof }
+    ensures proof { (joint : List ℕ) → reading.now.publics.now ≡ publics_of plan.now joint → reading.now.answers.now ≡ call_values plan.now.circuit reading.now.x.now joint → proof.new ≡ honest_proof plan.now.circuit reading.now.x.now joint seeds.now }
+    ensures again { room.new ≡ room.old }
 {
     let mut first = 0;
     let mut start = 0;
     for gadget in 0..plan.gadgets() {
-        let last = first + arity(plan, gadget);
-        let end = start + arity(plan, gadget) + coefficients(plan, gadget);
+        let last = first + plan.arity(gadget);
+        let end = start + plan.arity(gadget) + plan.coefficients(gadget);
         write_part(
             plan,
             gadget,
             reading,
             &seeds[first..last],
-            inputs,
-            rows,
-            wires,
-            values,
+            room,
             &mut proof[start..end],
         );
         first = last;
@@ -69,78 +55,22 @@ fn write_part(
     gadget: u32,
     reading: &Reading,
     seeds: &[Fe],
-    inputs: &mut [Fe],
-    rows: &mut [Fe],
-    wires: &mut [Fe],
-    values: &mut [Fe],
+    room: &mut WireRoom,
     part: &mut [Fe],
 )
     requires gadget { gadget < length plan.now.circuit.gadgets }
     requires publics { length reading.now.publics.now ≡ length plan.now.steps }
     requires x { length reading.now.x.now ≡ plan.now.circuit.meas }
     requires answers { length reading.now.answers.now ≡ call_count plan.now.circuit }
+    requires unit { reading.now.unit ≡ 1 }
     requires seeds { length seeds.now ≡ arity_of plan.now.circuit gadget }
-    requires inputs { length inputs.old ≡ 1024 }
-    requires room { IsEnough plan.now.circuit gadget (length rows.old) (length wires.old) (length values.old) }
+    requires made { room.old ≡ sizes_of plan.now }
     requires part { length part.old ≡ proof_part plan.now.circuit gadget }
-    ensures { (joint all : List ℕ) → reading.now.publics.now ≡ publics_of plan.now joint → reading.now.answers.now ≡ call_values plan.now.circuit reading.now.x.now joint → seeds.now ≡ seeds_for plan.now.circuit all gadget → part.new ≡ honest_part plan.now.circuit reading.now.x.now joint all gadget }
+    ensures part { (joint all : List ℕ) → reading.now.publics.now ≡ publics_of plan.now joint → reading.now.answers.now ≡ call_values plan.now.circuit reading.now.x.now joint → seeds.now ≡ seeds_for plan.now.circuit all gadget → part.new ≡ honest_part plan.now.circuit reading.now.x.now joint all gadget }
+    ensures again { room.new ≡ room.old }
 {
-    laws::is_within_limits(plan);
-    let arity = seeds.len();
-    let (front, coefficients) = part.split_at_mut(arity);
+    meaning::answered_is_direct();
+    let (front, coefficients) = part.split_at_mut(seeds.len());
     front.copy_from_slice(seeds);
-    write_polynomial(
-        plan,
-        gadget,
-        reading,
-        seeds,
-        &mut inputs[..arity],
-        rows,
-        wires,
-        values,
-        coefficients,
-    );
-}
-
-/// Writes the coefficients of the gadget at its wires.
-fn write_polynomial(
-    plan: &Plan,
-    gadget: u32,
-    reading: &Reading,
-    seeds: &[Fe],
-    inputs: &mut [Fe],
-    rows: &mut [Fe],
-    wires: &mut [Fe],
-    values: &mut [Fe],
-    coefficients: &mut [Fe],
-)
-    requires gadget { gadget < length plan.now.circuit.gadgets }
-    requires publics { length reading.now.publics.now ≡ length plan.now.steps }
-    requires x { length reading.now.x.now ≡ plan.now.circuit.meas }
-    requires answers { length reading.now.answers.now ≡ call_count plan.now.circuit }
-    requires seeds { length seeds.now ≡ arity_of plan.now.circuit gadget }
-    requires inputs { length inputs.old ≡ arity_of plan.now.circuit gadget }
-    requires room { IsEnough plan.now.circuit gadget (length rows.old) (length wires.old) (length values.old) }
-    requires coefficients { length coefficients.old ≡ coefficient_count plan.now.circuit gadget }
-    ensures { (joint : List ℕ) → reading.now.publics.now ≡ publics_of plan.now joint → reading.now.answers.now ≡ call_values plan.now.circuit reading.now.x.now joint → coefficients.new ≡ formula_of (kind_of plan.now.circuit gadget) (wires_of plan.now.circuit (calls_of plan.now.circuit (direct plan.now.circuit reading.now.x.now joint)) seeds.now gadget) }
-{
-    laws::is_within_limits(plan);
-    let arity = seeds.len();
-    let size = domain_size(plan, gadget);
-    let points = points(plan, gadget);
-    let rows = &mut rows[..size * arity];
-    write_rows(plan, gadget, reading, seeds, rows);
-    let wires = &mut wires[..arity * points];
-    write_wires(
-        rows,
-        arity,
-        plan.calls(gadget) as usize + 1,
-        size,
-        points,
-        wires,
-    );
-    let values = &mut values[..points];
-    write_values(plan.kind(gadget), wires, inputs, values);
-    inverse(values);
-    coefficients.copy_from_slice(&values[..coefficients.len()]);
+    room.formula_at_wires(plan, gadget, reading, seeds, coefficients);
 }

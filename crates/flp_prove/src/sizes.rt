@@ -1,46 +1,18 @@
-//! The sizes of a gadget: its inputs, its domain, its coefficients and the domain on which it is evaluated.
-ghost use Rattle.std.specs.Prelude.{◌≡◌, ℕ, ◌+◌, ◌*◌, ◌<◌, ◌≤◌, length};
+//! The larger domains on which gadgets are evaluated, and what serves every gadget.
+ghost use Rattle.std.specs.Prelude.{◌≡◌, ℕ, ◌*◌, ◌<◌, ◌≤◌, length};
 ghost use Rattle.flp_ntt.specs.TransformSize.{IsTransformSize};
 ghost use Rattle.flp_meaning.specs.Gadgets.{arity_of, size_of};
 ghost use Rattle.flp_meaning.specs.Lengths.{coefficient_count};
-ghost use Rattle.flp_prove.specs.Room.{points_of, IsEnough};
+ghost use Rattle.flp_prove.specs.Room.{points_of};
 
-use flp_gadget::Gadget;
 use flp_meaning::laws::least_numbers;
-use flp_plan::{Plan, laws};
+use flp_plan::Plan;
 
-/// The number of inputs of a gadget.
-pub(crate) fn arity(plan: &Plan, gadget: u32) -> usize
-    requires { gadget < length plan.now.circuit.gadgets }
-    ensures inputs { result ≡ arity_of plan.now.circuit gadget }
-    ensures some { 1 ≤ result }
-    ensures few { result ≤ 1024 }
-{
-    laws::is_within_limits(plan);
-    plan.kind(gadget).arity()
-}
+/// The inputs that a gadget has at most.
+pub(crate) const MOST_INPUTS: usize = 1024;
 
-/// The number of points of a gadget's domain.
-pub(crate) fn domain_size(plan: &Plan, gadget: u32) -> usize
-    requires { gadget < length plan.now.circuit.gadgets }
-    ensures points { result ≡ size_of plan.now.circuit gadget }
-    ensures few { result ≤ 4096 }
-    ensures transforms { IsTransformSize result }
-{
-    laws::is_within_limits(plan);
-    1 << plan.log(gadget)
-}
-
-/// The number of coefficients of a gadget's polynomial in a proof.
-pub(crate) fn coefficients(plan: &Plan, gadget: u32) -> usize
-    requires { gadget < length plan.now.circuit.gadgets }
-    ensures count { result ≡ coefficient_count plan.now.circuit gadget }
-    ensures few { result ≤ 32761 }
-    ensures many { size_of plan.now.circuit gadget ≤ result }
-{
-    laws::is_within_limits(plan);
-    plan.kind(gadget).degree() * (domain_size(plan, gadget) - 1) + 1
-}
+/// The points of a larger domain at most.
+pub(crate) const MOST_POINTS: usize = 32768;
 
 /// The number of points on which a gadget is evaluated: the least power of two with a point for each
 /// coefficient.
@@ -53,45 +25,16 @@ pub(crate) fn points(plan: &Plan, gadget: u32) -> usize
     ensures domain { size_of plan.now.circuit gadget ≤ result }
 {
     least_numbers();
-    coefficients(plan, gadget).next_power_of_two()
+    plan.coefficients(gadget).next_power_of_two()
 }
 
-/// How many words the working room of a prover has.
-#[derive(Clone, Copy)]
-pub(crate) struct Words {
-    pub(crate) rows: usize,
-    pub(crate) wires: usize,
-    pub(crate) values: usize,
-}
-
-/// The words that serve each gadget of a plan.
-pub(crate) fn words_for(plan: &Plan) -> Words
-    ensures { (gadget : ℕ) → gadget < length plan.now.circuit.gadgets → IsEnough plan.now.circuit gadget result.rows result.wires result.values }
+/// The words of the wires of any gadget at most, each by its values on the larger domain.
+pub(crate) fn most_wire_words(plan: &Plan) -> usize
+    ensures { (gadget : ℕ) → gadget < length plan.now.circuit.gadgets → arity_of plan.now.circuit gadget * points_of plan.now.circuit gadget ≤ result }
 {
-    let mut words = Words {
-        rows: 0,
-        wires: 0,
-        values: 0,
-    };
+    let mut most = 0;
     for gadget in 0..plan.gadgets() {
-        words = with_gadget(plan, gadget, words);
+        most = most.max(plan.arity(gadget) * points(plan, gadget));
     }
-    words
-}
-
-/// As many words as these, and enough for a gadget.
-fn with_gadget(plan: &Plan, gadget: u32, words: Words) -> Words
-    requires { gadget < length plan.now.circuit.gadgets }
-    ensures enough { IsEnough plan.now.circuit gadget result.rows result.wires result.values }
-    ensures rows { words.rows ≤ result.rows }
-    ensures wires { words.wires ≤ result.wires }
-    ensures values { words.values ≤ result.values }
-{
-    let inputs = arity(plan, gadget);
-    let points = points(plan, gadget);
-    Words {
-        rows: words.rows.max(domain_size(plan, gadget) * inputs),
-        wires: words.wires.max(inputs * points),
-        values: words.values.max(points),
-    }
+    most
 }

@@ -1,9 +1,9 @@
 -- What the decision reads of a verifier, gadget after gadget.
-use Rattle.std.proofs.Common.{ℕ, zero, suc, ◌≡◌, ◌+◌, ◌<◌, ◌≤◌, Bool, true, false, ◌&&◌, List, ◌∷◌, [], ◌++◌, length, take, drop, get_or, refl, ap, ap₂, sym, subst, ◌∙◌, arith, eqb, ⊎_elim}
+use Rattle.std.proofs.Common.{ℕ, zero, suc, ◌≡◌, ◌+◌, ◌<◌, ◌≤◌, Bool, true, false, ◌&&◌, List, ◌∷◌, [], ◌++◌, length, take, drop, get_or, refl, ap, ap₂, sym, subst, ◌∙◌, arith, eqb}
 use Rattle.std.specs.List.{range_with_len, list_all, sum_by}
 use Rattle.std.specs.Prelude.{slice_index}
 use Rattle.std.proofs.lemmas.Bool.{false≢true}
-use Rattle.std.proofs.lemmas.List.{get_or-take, get_or-drop, take_min}
+use Rattle.std.proofs.lemmas.List.{get_or-take, get_or-drop, map-id}
 use Rattle.std.proofs.lemmas.List.FromFn.{length-range_with_len, get_or-range_with_len, map-range_with_len_more}
 use Rattle.std.proofs.lemmas.List.Folds.{list_all-append}
 use Rattle.std.proofs.lemmas.List.Sums.{AllPass-from_list_all}
@@ -13,7 +13,7 @@ use Rattle.flp_meaning.specs.Circuit.{kind_of}
 use Rattle.flp_meaning.specs.Gadgets.{gadgets_of, arity_of}
 use Rattle.flp_meaning.specs.Lengths.{start_of, verifier_part, lengths_of}
 use Rattle.flp_meaning.specs.Verifier.{gadget_holds, decides}
-use Rattle.flp_query.proofs.StartLemmas.{start-inside, map-own}
+use Rattle.flp_meaning.proofs.StartLemmas.{start-inside}
 
 -- the part of a gadget lies within the verifier
 pub part-fits : (body : Program) (g start arity n : ℕ) → g < length body.gadgets → start ≡ 1 + start_of (verifier_part body) g → arity ≡ arity_of body g
@@ -42,8 +42,8 @@ holds-at body words g start arity begins inputs =
 
 pub range-more : (g : ℕ) → range_with_len 0 (g + 1) ≡ range_with_len 0 g ++ g ∷ []
 range-more g =
-    sym (map-own (range_with_len 0 (g + 1))) ∙ map-range_with_len_more (λ k. k) 0 g g (omega arith)
-    ∙ ap (λ l. l ++ g ∷ []) (map-own (range_with_len 0 g))
+    sym (map-id (range_with_len 0 (g + 1))) ∙ map-range_with_len_more (λ k. k) 0 g g (omega arith)
+    ∙ ap (λ l. l ++ g ∷ []) (map-id (range_with_len 0 g))
 
 -- one gadget more holds
 pub all-more : (test : ℕ → Bool) (g : ℕ) → list_all test (range_with_len 0 g) ≡ true → test g ≡ true → list_all test (range_with_len 0 (g + 1)) ≡ true

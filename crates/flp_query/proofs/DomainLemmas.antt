@@ -1,6 +1,6 @@
 -- The first number that passes a test, while the numbers before it are tried.
-use Rattle.std.proofs.Common.{ℕ, zero, suc, ◌≡◌, ◌+◌, ◌-◌, ◌<◌, ◌≤◌, Bool, true, false, refl, ap, sym, subst, ◌∙◌, add-one, arith}
-use Rattle.std.specs.Prelude.{Option, None, Some, if◌then◌else◌}
+use Rattle.std.proofs.Common.{ℕ, suc, ◌≡◌, ◌+◌, ◌-◌, ◌<◌, ◌≤◌, Bool, true, false, ap, ◌∙◌, arith}
+use Rattle.std.specs.Prelude.{None, Some, if◌then◌else◌}
 use Rattle.flp_meaning.specs.Gadgets.{first_where}
 
 -- this number passes

@@ -1,5 +1,5 @@
 -- The inverse of the number of shares.
-use Rattle.std.proofs.Common.{ℕ, suc, ◌≡◌, ◌*◌, ◌%◌, ◌<◌, ◌≤◌, ap, ◌∙◌, arith}
+use Rattle.std.proofs.Common.{ℕ, ◌≡◌, ◌%◌, ◌≤◌, ap, ◌∙◌, arith}
 use Rattle.std.proofs.Math.Nat.{mul_comm}
 use Rattle.flp_field.specs.Word.{modulus, IsWord, word_product}
 use Rattle.flp_field.proofs.Congruence.{mod_word}

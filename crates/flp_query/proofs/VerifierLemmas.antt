@@ -1,24 +1,18 @@
 -- Verifiers: the part of a gadget, and parts one after another.
-use Rattle.std.proofs.Common.{ℕ, zero, suc, ◌≡◌, ◌+◌, ◌-◌, ◌<◌, ◌≤◌, List, [], ◌∷◌, ◌++◌, length, map, take, drop, set, refl, ap, ap₂, sym, subst, ◌∙◌, arith}
+use Rattle.std.proofs.Common.{ℕ, suc, ◌≡◌, ◌+◌, ◌-◌, ◌<◌, ◌≤◌, List, [], ◌∷◌, ◌++◌, length, map, take, drop, set, refl, ap, ap₂, sym, ◌∙◌, arith}
 use borrow.Rule.Slice.PartMut.{put_mid}
 use Rattle.std.specs.List.{range_with_len, flat_map, sum_by}
 use Rattle.std.proofs.lemmas.Slice.{take-put_mid}
-use Rattle.std.proofs.lemmas.List.{length-drop, set_at, take_all}
-use Rattle.std.proofs.lemmas.List.FromFn.{length-map-range_with_len}
-use Rattle.std.proofs.lemmas.Grind.{flat_map-append}
+use Rattle.std.proofs.lemmas.List.{append-nil, length-drop, set_at, take_all}
 use Rattle.flp_poly.specs.Polynomial.{value_at}
-use Rattle.flp_poly.specs.Interpolation.{interpolated}
 use Rattle.flp_syntax.specs.Tree.{Program}
-use Rattle.flp_meaning.specs.Circuit.{calls_of, answered}
-use Rattle.flp_meaning.specs.Gadgets.{gadgets_of, arity_of, size_of}
+use Rattle.flp_meaning.specs.Circuit.{calls_of, with_answers}
+use Rattle.flp_meaning.specs.Gadgets.{gadgets_of, arity_of}
 use Rattle.flp_meaning.specs.Lengths.{start_of, verifier_part, lengths_of}
 use Rattle.flp_meaning.specs.Wires.{wires_of}
 use Rattle.flp_meaning.specs.Proof.{seeds_in, polynomial_in, answers_in}
 use Rattle.flp_meaning.specs.Verifier.{point_of, verifier_of}
-use Rattle.flp_query.specs.Rows.{HasRows, column, values_of_columns}
-use Rattle.flp_query.proofs.StartLemmas.{start-more, start-inside}
-use Rattle.flp_query.proofs.DecisionLemmas.{range-more}
-use Rattle.flp_query.proofs.RowLemmas.{values-wires}
+use Rattle.flp_meaning.proofs.StartLemmas.{start-inside, flat-more}
 
 -- the last word behind the others
 set-last : (out rest : List ℕ) (n last : ℕ) → length out ≡ n → length rest ≡ 1 → set (out ++ rest) n last ≡ out ++ last ∷ []
@@ -26,21 +20,19 @@ set-last out [] n last size one = absurd (omega arith)
 set-last out (x ∷ []) n last size one = set_at out x [] last n size
 set-last out (x ∷ y ∷ rest) n last size one = absurd (omega arith)
 
-pub part-is : (body : Program) (x joint proof query answers : List ℕ) (unit gadget t size width last n m : ℕ) (rows out part seeds poly : List ℕ)
-    → answers ≡ answers_in body proof → t ≡ point_of body query gadget → size ≡ size_of body gadget → width ≡ arity_of body gadget
-    → length part ≡ verifier_part body gadget → seeds ≡ seeds_in body proof gadget → poly ≡ polynomial_in body proof gadget
-    → HasRows body (calls_of body (answered x joint unit answers)) seeds gadget rows
-    → out ≡ values_of_columns n m rows t → n ≡ size → m ≡ width → last ≡ value_at poly t
+pub part-is : (body : Program) (x joint proof query answers : List ℕ) (unit gadget t width last : ℕ) (out part seeds poly : List ℕ)
+    → answers ≡ answers_in body proof → t ≡ point_of body query gadget → width ≡ arity_of body gadget → length part ≡ verifier_part body gadget
+    → length out ≡ width → seeds ≡ seeds_in body proof gadget → poly ≡ polynomial_in body proof gadget
+    → out ≡ map (λ wire. value_at wire (point_of body query gadget)) (wires_of body (calls_of body (with_answers x joint unit answers)) seeds gadget)
+    → last ≡ value_at poly t
     → set (out ++ drop width part) width last ≡ verifier_of body x joint proof query unit gadget
-part-is body x joint proof query answers unit gadget t size width last n m rows out part seeds poly same_answers at sized wide long own_seeds own_poly has values same_n same_m value =
+part-is body x joint proof query answers unit gadget t width last out part seeds poly same_answers at wide long count own_seeds own_poly wires value =
+    let point : ℕ = point_of body query gadget in
     let whole : List ℕ → List ℕ → List ℕ → ℕ → List ℕ = λ a s p q.
-    map (λ wire. value_at wire q) (wires_of body (calls_of body (answered x joint unit a)) s gadget) ++ value_at p q ∷ [] in
-    let count : length out ≡ m =
-    ap (λ (l : List ℕ). length l) values ∙ length-map-range_with_len (λ input. value_at (interpolated (column n m rows input)) t) 0 m in
+    map (λ wire. value_at wire point) (wires_of body (calls_of body (with_answers x joint unit a)) s gadget) ++ value_at p q ∷ [] in
     let rest : length (drop width part) ≡ length part - width = length-drop width part in
-    set-last out (drop width part) width last (omega arith) (omega arith)
-    ∙ ap₂ (λ (l : List ℕ) (v : ℕ). l ++ v ∷ [])
-    (values ∙ values-wires body (calls_of body (answered x joint unit answers)) seeds gadget t n m rows (same_n ∙ sized) (same_m ∙ wide) has) value
+    set-last out (drop width part) width last count (omega arith)
+    ∙ ap₂ (λ (l : List ℕ) (v : ℕ). l ++ v ∷ []) wires value
     ∙ ap₂ (λ (a s : List ℕ). whole a s poly t) same_answers own_seeds
     ∙ ap₂ (λ (p : List ℕ) (q : ℕ). whole (answers_in body proof) (seeds_in body proof gadget) p q) own_poly at
 
@@ -54,19 +46,14 @@ parts-fit body g start arity n inside begins inputs size =
     start-inside (verifier_part body) g (length body.gadgets) inside in
     omega arith
 
-append_none : (l : List ℕ) → l ++ [] ≡ l
-append_none [] = refl
-append_none (x ∷ l) = ap (λ m. x ∷ m) (append_none l)
-
 -- one part more
 pub parts-more : (f : ℕ → List ℕ) (g start end k : ℕ) (parts part : List ℕ) → end ≡ start + length part → start ≤ length parts
     → take start parts ≡ flat_map f (range_with_len 0 g) → part ≡ f g
     → take end (put_mid start k parts part) ≡ flat_map f (range_with_len 0 (g + 1))
 parts-more f g start end k parts part ends there before own =
     take-put_mid start k parts part end ends there
-    ∙ ap₂ (λ (a b : List ℕ). a ++ b) before (own ∙ sym (append_none (f g)))
-    ∙ sym (flat_map-append f (range_with_len 0 g) (g ∷ []))
-    ∙ ap (λ l. flat_map f l) (sym (range-more g))
+    ∙ ap₂ (λ (a b : List ℕ). a ++ b) before own
+    ∙ sym (flat-more f 0 g ∙ (let here : 0 + g ≡ g = omega arith in ap (λ (k : ℕ). flat_map f (range_with_len 0 g) ++ f k) here))
 
 -- all parts
 pub parts-all : (body : Program) (f : ℕ → List ℕ) (g start : ℕ) (parts : List ℕ) → g ≡ length body.gadgets → start ≡ start_of (verifier_part body) g
@@ -82,7 +69,7 @@ pub joined : (verifier parts : List ℕ) (check : ℕ) → 0 < length verifier
 joined [] parts check some = absurd (omega arith)
 joined (x ∷ verifier) parts check some =
     let back : suc (length verifier) - 1 ≡ length verifier = omega arith in
-    ap (λ l. check ∷ l) (ap (λ k. parts ++ drop k verifier) back ∙ ap (λ l. parts ++ l) (drop_whole verifier) ∙ append_none parts)
+    ap (λ l. check ∷ l) (ap (λ k. parts ++ drop k verifier) back ∙ ap (λ l. parts ++ l) (drop_whole verifier) ∙ append-nil parts)
   where
     drop_whole : (l : List ℕ) → drop (length l) l ≡ []
     drop_whole [] = refl

@@ -1,11 +1,11 @@
--- Queries, from what a scratch is made for up to the laws.
--- what a plan asks of a scratch
-pub mod Sizes
--- the room that a scratch has
+-- Queries, from the room of a challenge up to the laws.
+-- the room that a challenge has
 pub mod Room
 -- what the constant 1 counts as on a share
 pub mod Unit
--- values of wires, row by row
-pub mod Rows
+-- what the shares of a proof have in common
+pub mod Challenge
+-- the wires of a gadget, summed up
+pub mod Wires
 -- the laws
 pub mod Laws

@@ -1,5 +1,5 @@
 -- What the constant 1 counts as on a share.
-use Rattle.std.specs.Prelude.{ℕ, ◌≡◌, ◌-◌, ◌<◌, ◌≤◌}
+use Rattle.std.specs.Prelude.{ℕ, ◌≡◌, ◌-◌, ◌≤◌}
 use Rattle.flp_field.specs.Word.{modulus, IsWord, word_product, word_power}
 
 -- the inverse of the number of shares: its power with the exponent p - 2. A proof takes what it is from the law

@@ -1,9 +1,8 @@
 //! The decision on a verifier.
 ghost use Rattle.std.specs.Prelude.{◌≡◌, length};
 ghost use Rattle.flp_meaning.specs.Verifier.{decides};
-ghost use Rattle.flp_plan.specs.Counted.{lengths_of};
+ghost use Rattle.flp_plan.specs.Counted.{counted_lengths};
 
-use crate::parts::arity;
 use flp_field::Fe;
 use flp_gadget::Gadget;
 use flp_plan::Plan;
@@ -13,7 +12,7 @@ use flp_plan::Plan;
 ///
 /// It has as many words as the plan's length `verifier`.
 pub fn decide(plan: &Plan, verifier: &[Fe]) -> bool
-    requires { length verifier.now ≡ (lengths_of plan.now.circuit).verifier }
+    requires { length verifier.now ≡ (counted_lengths plan.now.circuit).verifier }
     ensures { result ≡ decides plan.now.circuit verifier.now }
 {
     if verifier[0] != Fe::ZERO {
@@ -21,7 +20,7 @@ pub fn decide(plan: &Plan, verifier: &[Fe]) -> bool
     }
     let mut start = 1;
     for gadget in 0..plan.gadgets() {
-        let end = start + arity(plan, gadget);
+        let end = start + plan.arity(gadget);
         if plan.kind(gadget).eval(&verifier[start..end]) != verifier[end] {
             return false;
         }

@@ -1,16 +1,9 @@
 //! The laws of queries, each the contract of a function that does nothing. A caller's proof takes the law from
-//! here; the statements are in `specs/Sizes.antt`, `specs/Unit.antt` and `specs/Laws.antt`.
-ghost use Rattle.flp_query.specs.Sizes.{AskAlike};
+//! here; the statements are in `specs/Unit.antt` and `specs/Laws.antt`.
 ghost use Rattle.flp_query.specs.Unit.{UnitIsInverse};
 ghost use Rattle.flp_query.specs.Laws.{VerifiersSumUp, RefusalsAreAlike, HonestIsTaken, SharedHonestIsTaken};
 
 use flp_plan::{Plan, laws as plans};
-
-/// A scratch that was made for a plan serves every other plan that answers the same to `lengths`, `gadgets`,
-/// `checks`, `publics_len` and, for each gadget, `kind` and `calls`.
-pub fn serves_alike()
-    ensures { AskAlike }
-{}
 
 /// What 1 counts as on one of some shares is the inverse of their number.
 pub fn units()
@@ -32,6 +25,6 @@ pub fn honest(plan: &Plan)
     ensures taken { HonestIsTaken plan.now.circuit }
     ensures shared { SharedHonestIsTaken plan.now.circuit }
 {
-    plans::is_within_limits(plan);
+    plans::is_bounded(plan);
     plans::is_linear(plan);
 }

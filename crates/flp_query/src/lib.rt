@@ -1,43 +1,41 @@
 //! The query of a share, and the decision on the sum of the verifiers.
 //!
-//! A [`Scratch`] is made once for a plan and makes, of each share of an encoding and a proof, the words of its
-//! verifier, as `verifier_words` in flp_meaning's `specs/Verifier.antt` has them: the combined checks, and for
-//! each gadget the values at a query point of its wires and of the proof's polynomial. A query with a point that
-//! lies in the domain of its gadget is refused. [`decide`] says whether a verifier is taken.
+//! The words of a verifier are, as `verifier_words` in flp_meaning's `specs/Verifier.antt` has them, the combined
+//! checks, and for each gadget the values at a query point of its wires and of the proof's polynomial. What they take
+//! that is the same for every share of a proof is a [`Challenge`], posed once for each proof: the test that no point
+//! lies in the domain of its gadget, the weights of that domain at the point, the public values. Then each share is
+//! answered by sums of products with these weights. A [`Scratch`] does both in a row, for one share. [`decide`] says
+//! whether a verifier is taken.
 //!
 //! Everything between is linear, so the verifiers of the shares, on each of which the constant 1 counts as
 //! 1/shares, sum up to the verifier of the summed report. That and the honest proof's acceptance are the
 //! contracts of the functions in [`laws`].
 //!
-//! What a crate needs that looks into a proof is open to it too: the answers of a proof ([`answers`]), the parts of
-//! a gadget ([`parts`]) and the values of its wires ([`wires`]), on what a [`reading`] holds.
+//! What a crate needs that looks into a proof is open to it too: the answers of a proof ([`answers`]) and the parts
+//! of a gadget ([`parts`]).
 //!
-//! [`Scratch::new`] alone takes memory.
+//! [`Challenge::new`] and [`Scratch::new`] alone take memory.
 //!
 //! Query and decision are those of the chapter "Fully Linear Proofs" of the VDAF draft of the IETF, after Boneh
 //! et al., "Zero-Knowledge Proofs on Secret-Shared Data via Fully Linear PCPs", CRYPTO 2019.
 #![tactic(auto)]
 
 pub mod answers;
+mod challenge;
 mod checks;
 mod decision;
-mod domains;
 pub mod laws;
 pub mod parts;
-pub mod reading;
-mod rooms;
+mod room;
 mod scratch;
-mod sizes;
 mod unit;
 mod verifier;
-pub mod wires;
+mod weights;
+mod wires;
 
+pub use challenge::Challenge;
 pub use decision::decide;
-pub use domains::InDomain;
 pub use scratch::Scratch;
-pub use sizes::{GadgetSize, Sizes};
+pub use weights::InDomain;
 /// Want of memory.
 pub use std::alloc::AllocError as Memory;
-
-#[cfg(test)]
-mod tests;

@@ -12,7 +12,7 @@ pub(crate) fn unit_of(shares: u32) -> Fe
 {
     // The proof reads from here that a word has one inverse.
     laws::inverses();
-    let unit = Fe::new(shares as u64).unwrap().inv();
+    let unit = Fe::inverse_of(shares);
     let _word = unit.value();
     unit
 }

@@ -1,18 +1,19 @@
 -- What a job file's head says, and its first fault, from its parts.
-use Rattle.std.proofs.Common.{◌≡◌, ℕ, ◌+◌, ◌*◌, ◌≤◌, List, ◌++◌, length, take, drop, Some, None, refl, sym, ap, ◌∙◌, arith, length-append, length-drop}
+use Rattle.std.proofs.Common.{◌≡◌, ℕ, ◌+◌, ◌*◌, ◌≤◌, List, [], ◌∷◌, ◌++◌, length, take, drop, Some, None, refl, sym, ap, ◌∙◌, arith, length-append, length-drop}
 use Rattle.std.proofs.lemmas.List.{drop_at, take_all, take-append-le, drop-append-le}
 use Rattle.flp_report.specs.declared.fault.BatchFault.{BatchFault}
-use Rattle.flp_report.specs.declared.job_shape.JobHeader.{JobHeader}
+use Rattle.flp_report.specs.declared.header.JobHeader.{JobHeader}
 use Rattle.flp_report.specs.declared.job_shape.JobShape.{JobShape}
+use Rattle.flp_report.specs.Fault.{ended}
 use Rattle.flp_report.specs.Head.{number_at, numbers_fault, text_end, head_fault}
 use Rattle.flp_report.specs.Job.{job_letters, job_header_of, job_bytes_of, job_large_fault, jobs_fault, job_fault_of, jobs_of, IsJobHead}
 use Rattle.flp_report.specs.Pieces.{pieces}
 use Rattle.flp_report.proofs.PiecesLemmas.{pieces-append}
 use Rattle.flp_report.proofs.HeadLemmas.{ended-none, number_at-append, numbers_fault-append, head_fault-none}
-use Rattle.flp_report.proofs.LawLemmas.{first_of-here, first_of-next, first_of-last, first_of-second}
+use Rattle.flp_report.proofs.FaultLemmas.{first_of-here, first_of-next, first_of-last, none-at}
 
 -- what was read in front of the jobs is what a head says
-pub IsJobHead-joined : (front text : List ℕ) → length front ≡ 28 → length text ≡ number_at 20 front → numbers_fault job_letters None front ≡ None
+pub IsJobHead-joined : (front text : List ℕ) → length front ≡ 28 → length text ≡ number_at 20 front → numbers_fault job_letters 1 None front ≡ None
     → IsJobHead (front ++ text) (record { shares = number_at 12 front; proofs = number_at 16 front; text = text; jobs = number_at 24 front })
 IsJobHead-joined front text size length_of none =
     let e : 12 + 4 ≤ length front = omega (arith, size) in
@@ -53,8 +54,8 @@ job_head-more front rest header head =
     let whole : 28 ≤ 0 + length (front ++ rest) = omega (arith, length-append front rest, head.size) in
     let behind = length-drop 28 (front ++ rest) in
     let reaches : text_end 28 (front ++ rest) ≤ 28 + length (drop 28 (front ++ rest)) = omega (arith, text, behind, length-append front rest, head.size) in
-    let none : numbers_fault job_letters None front ≡ None = first_of-second _ _ _ head.none in
-    rw (ended-none 0 28 (front ++ rest) whole, numbers_fault-append job_letters None front rest refl enough, none, ended-none 28 (text_end 28 (front ++ rest)) (drop 28 (front ++ rest)) reaches) refl
+    let none : numbers_fault job_letters 1 None front ≡ None = none-at (ended 0 28 front ∷ numbers_fault job_letters 1 None front ∷ ended 28 (text_end 28 front) (drop 28 front) ∷ []) 1 head.none in
+    rw (ended-none 0 28 (front ++ rest) whole, numbers_fault-append job_letters 1 None front rest refl enough, none, ended-none 28 (text_end 28 (front ++ rest)) (drop 28 (front ++ rest)) reaches) refl
 
 -- a file whose head has a fault
 pub job_fault-head : (s : JobShape) (bytes : List ℕ) (b : BatchFault) → head_fault job_letters 28 None bytes ≡ Some b → job_fault_of s bytes ≡ Some b

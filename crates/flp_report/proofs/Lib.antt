@@ -1,3 +1,6 @@
+pub mod FaultLemmas
+pub mod RoomLemmas
+pub mod ShapeLemmas
 pub mod KnownLemmas
 pub mod PlacesLemmas
 pub mod SegmentLemmas
@@ -6,7 +9,9 @@ pub mod WordPartsLemmas
 pub mod ReadsLemmas
 pub mod HeadLemmas
 pub mod PiecesLemmas
-pub mod BatchLemmas
+pub mod BatchHeadLemmas
+pub mod BucketLemmas
+pub mod ClaimsLemmas
 pub mod LawLemmas
 pub mod WriteLemmas
 pub mod BackLemmas
@@ -14,3 +19,5 @@ pub mod ReportLemmas
 pub mod JobLemmas
 pub mod JobHeadLemmas
 pub mod PartFaultLemmas
+-- the numbers of a head without a fault
+pub mod LimitLemmas

@@ -1,36 +1,15 @@
--- The first fault of the records and of the jobs, from what was read and what was left.
-use Rattle.std.proofs.Common.{◌≡◌, ℕ, ◌+◌, ◌*◌, ◌<◌, ◌≤◌, List, ◌++◌, length, Some, None, nat_lt, refl, ap, ◌∙◌, arith, length-append}
+-- The first fault of the jobs, from what was left of a job file.
+use Rattle.std.proofs.Common.{◌≡◌, ℕ, ◌+◌, ◌*◌, ◌<◌, ◌≤◌, List, length, Some, None, nat_lt, refl, ◌∙◌, arith}
 use Rattle.std.proofs.lemmas.Bool.{lt-ltb, le-ltb}
 use Rattle.flp_report.specs.declared.fault.BatchFault.{BatchFault}
-use Rattle.flp_report.specs.declared.fault.BatchFault.TheVariants.{Truncated, Trailing}
+use Rattle.flp_report.specs.declared.fault.BatchFault.TheVariants.{Trailing}
 use Rattle.flp_report.specs.declared.job_shape.JobShape.{JobShape}
 use Rattle.flp_report.specs.Fault.{met}
 use Rattle.flp_report.specs.Reads.{EndedShort}
 use Rattle.flp_report.specs.Pieces.{pieces}
-use Rattle.flp_report.specs.Batch.{records_fault}
 use Rattle.flp_report.specs.Job.{job_bytes_of, word_fault, jobs_fault}
 use Rattle.flp_report.proofs.HeadLemmas.{ended-none, ended-short}
-use Rattle.flp_report.proofs.LawLemmas.{first_of-here, first_of-next, first_of-last}
-
--- records that ended short, behind others that were read
-pub records_fault-short : (before wanted whole : ℕ) (read left : List ℕ) (b : BatchFault) → EndedShort (Some left) (before + length read) wanted whole b → before + length read + wanted ≤ whole
-    → records_fault before whole (read ++ left) ≡ Some b
-records_fault-short before wanted whole read left b short within =
-    let places : before + length read + short.came ≡ before + (length read + short.came) = omega arith in
-    let all : EndedShort (Some (read ++ left)) before (length read + wanted) whole b = record {
-      came = length read + short.came;
-      less = omega (arith, short.less);
-      is = short.is ∙ ap (λ (n : ℕ). Truncated n whole) places;
-      known = length-append read left ∙ ap (λ (n : ℕ). length read + n) short.known;
-    } in
-    let fits : before + (length read + wanted) ≤ whole = omega (arith, within) in
-    first_of-here _ _ b (ended-short before (length read + wanted) whole (read ++ left) b fits all)
-
--- records with a byte behind them
-pub records_fault-trailing : (before whole : ℕ) (rest : List ℕ) → whole < before + length rest → records_fault before whole rest ≡ Some Trailing
-records_fault-trailing before whole rest more =
-    let reaches : whole ≤ before + length rest = omega (arith, more) in
-    rw (ended-none before whole rest reaches, lt-ltb whole (before + length rest) more) refl
+use Rattle.flp_report.proofs.FaultLemmas.{first_of-here, first_of-next, first_of-last}
 
 -- jobs that ended short
 pub jobs_fault-short : (s : JobShape) (before jobs : ℕ) (rest : List ℕ) (b : BatchFault) → EndedShort (Some rest) before (jobs * job_bytes_of s) (before + jobs * job_bytes_of s) b → jobs_fault s before jobs rest ≡ Some b

@@ -3,7 +3,7 @@ use Rattle.std.proofs.Common.{◌≡◌, ℕ, zero, suc, ◌+◌, ◌-◌, ◌*�
 use Rattle.std.specs.Prelude.{slice_get}
 use Rattle.std.specs.List.{All, concat}
 use Rattle.std.proofs.lemmas.List.Elements.{All-nil, All-cons}
-use Rattle.std.proofs.lemmas.List.{drop-drop, take-append-le, drop-append-le, length-take-le}
+use Rattle.std.proofs.lemmas.List.{drop-drop, drop-take, take-take, take-append-le, drop-append-le, length-take-le}
 use Rattle.flp_report.specs.Pieces.{pieces, is_below, fall_after, fall_in, IsCut}
 
 -- the piece of this number
@@ -57,6 +57,18 @@ pieces-append size (suc n) front rest long =
     ∙ (ap (λ (b : List ℕ). take size front ∷ pieces size n b) (drop-append-le size front rest first)
     ∙ ap (λ (l : List (List ℕ)). take size front ∷ l) (pieces-append size n (drop size front) rest more))
 
+-- as many bytes as the pieces have are enough
+pub pieces-take : (size n : ℕ) (bytes : List ℕ) → pieces size n (take (n * size) bytes) ≡ pieces size n bytes
+pieces-take size zero bytes = refl
+pieces-take size (suc n) bytes =
+    let whole : suc n * size ≡ size + n * size = omega arith in
+    let first : take size (take (size + n * size) bytes) ≡ take size bytes = take-take size (size + n * size) bytes (omega arith) in
+    let rest : drop size (take (size + n * size) bytes) ≡ take (n * size) (drop size bytes) = drop-take size (n * size) bytes in
+    ap (λ (m : ℕ). take size (take m bytes) ∷ pieces size n (drop size (take m bytes))) whole
+    ∙ (ap (λ (b : List ℕ). b ∷ pieces size n (drop size (take (size + n * size) bytes))) first
+    ∙ (ap (λ (b : List ℕ). take size bytes ∷ pieces size n b) rest
+    ∙ ap (λ (l : List (List ℕ)). take size bytes ∷ l) (pieces-take size n (drop size bytes))))
+
 -- the piece of each number
 pub slice_get-pieces : (size n k : ℕ) (bytes : List ℕ) → k < n → slice_get (pieces size n bytes) k ≡ Some (piece size k bytes)
 slice_get-pieces size zero k bytes below = absurd (omega arith)
@@ -70,7 +82,7 @@ slice_get-pieces size (suc n) (suc k) bytes below =
     ∙ ap (λ (b : List ℕ). Some (take size b)) (drop-drop (size * k) size bytes ∙ ap (λ (m : ℕ). drop m bytes) places)
 
 -- there are as many as are asked for
-length-pieces : (size n : ℕ) (bytes : List ℕ) → length (pieces size n bytes) ≡ n
+pub length-pieces : (size n : ℕ) (bytes : List ℕ) → length (pieces size n bytes) ≡ n
 length-pieces size zero bytes = refl
 length-pieces size (suc n) bytes = let rest = length-pieces size n (drop size bytes) in omega (arith, rest)
 

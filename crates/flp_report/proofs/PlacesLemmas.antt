@@ -3,8 +3,8 @@ use Rattle.std.proofs.Common.{ℕ, ◌+◌, ◌*◌, ◌<◌, ◌≤◌, arith}
 use Rattle.std.proofs.Math.Nat.{mul-le-mul_right}
 
 -- the part of a share ends within all shares' parts
-pub share_fits : (share shares part rest : ℕ) → share < shares → 16 + share * (part * 8) + part * 8 ≤ 16 + 8 * (shares * part + rest)
-share_fits share shares part rest below =
+pub share_fits : (start share shares part rest : ℕ) → share < shares → start + share * (part * 8) + part * 8 ≤ start + 8 * (shares * part + rest)
+share_fits start share shares part rest below =
     let more : share + 1 ≤ shares = omega arith in
     omega (arith, mul-le-mul_right part more)
 

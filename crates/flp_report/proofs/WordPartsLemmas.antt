@@ -39,12 +39,12 @@ drop-words (suc k) (suc m) bytes =
     ∙ (ap (λ (b : List ℕ). words (m - k) b) (drop-word k bytes)
     ∙ ap (λ (n : ℕ). words n (drop (8 * suc k) bytes)) count)
 
--- n words from number k on, of m behind the nonce
-pub words-part : (n k m place : ℕ) (bytes : List ℕ) → k + n ≤ m → place ≡ 16 + 8 * k → words n (take (8 * n) (drop place bytes)) ≡ take n (drop k (words m (drop 16 bytes)))
-words-part n k m place bytes fits same =
-    let rest = drop 16 bytes in
+-- n words from number k on, of m that begin at a place
+pub words-part : (n k m front place : ℕ) (bytes : List ℕ) → k + n ≤ m → place ≡ front + 8 * k → words n (take (8 * n) (drop place bytes)) ≡ take n (drop k (words m (drop front bytes)))
+words-part n k m front place bytes fits same =
+    let rest = drop front bytes in
     let less : n ≤ m - k = omega (arith, fits) in
-    let start : drop place bytes ≡ drop (8 * k) rest = ap (λ (p : ℕ). drop p bytes) same ∙ sym (drop-drop (8 * k) 16 bytes) in
+    let start : drop place bytes ≡ drop (8 * k) rest = ap (λ (p : ℕ). drop p bytes) same ∙ sym (drop-drop (8 * k) front bytes) in
     ap (λ (b : List ℕ). words n (take (8 * n) b)) start
     ∙ (words-take n (drop (8 * k) rest)
     ∙ sym (ap (λ (l : List ℕ). take n l) (drop-words k m rest) ∙ take-words n (m - k) (drop (8 * k) rest) less))

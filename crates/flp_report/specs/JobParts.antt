@@ -36,8 +36,8 @@ abbrev pub seeds_start : JobShape → ℕ → ℕ
 seeds_start s proof = 16 + 8 * seeds_word s proof
 
 -- the bytes of one proof's seeds
-abbrev pub seeds_in : JobShape → List ℕ → ℕ → List ℕ
-seeds_in s bytes proof = take (8 * s.prove) (drop (seeds_start s proof) bytes)
+abbrev pub seeds_in_job : JobShape → List ℕ → ℕ → List ℕ
+seeds_in_job s bytes proof = take (8 * s.prove) (drop (seeds_start s proof) bytes)
 
 -- the number of the first of one proof's joint and query words
 abbrev pub job_own_word : JobShape → ℕ → ℕ

@@ -1,14 +1,8 @@
 -- How many bytes a reading takes from its source.
-use Rattle.std.specs.Prelude.{ℕ, ◌+◌, ◌≤◌, ◌<◌, ◌≡◌, List, length, Option, IfSome}
-use Rattle.std.specs.Io.KnownBytes.{Consumes}
+use Rattle.std.specs.Prelude.{ℕ, ◌+◌, ◌<◌, ◌≡◌, List, length, Option, IfSome}
+use Rattle.flp_io.specs.Reads.{ConsumesAtMost}
 use Rattle.flp_report.specs.declared.fault.BatchFault.{BatchFault}
 use Rattle.flp_report.specs.declared.fault.BatchFault.TheVariants.{Truncated}
-
--- known bytes lose some of their front, and no more than this many
-pub record ConsumesAtMost (limit : ℕ) (old new : Option (List ℕ)) : Type 0 where
-  pub bytes : List ℕ
-  pub few : length bytes ≤ limit
-  pub gone : Consumes old new bytes
 
 -- known bytes lose some of their front, and no more than as many as they themselves give
 abbrev pub ConsumesWithin : (List ℕ → ℕ) → Option (List ℕ) → Option (List ℕ) → Type 0

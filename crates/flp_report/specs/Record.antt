@@ -1,8 +1,9 @@
--- The parts of a record's bytes: the nonce, one part for each share, and then each proof's own words.
-use Rattle.std.specs.Prelude.{ℕ, ◌+◌, ◌*◌, List, take, drop}
+-- The parts of a record's bytes: the nonce, its bucket, one part for each share, and then each proof's own words.
+use Rattle.std.specs.Prelude.{ℕ, ◌+◌, ◌*◌, ◌==◌, if◌then◌else◌, Option, Some, None, List, take, drop}
 use Rattle.flp_report.specs.declared.shape.Shape.{Shape}
 use Rattle.flp_report.specs.declared.record.Record.{Record}
-use Rattle.flp_report.specs.Shape.{part_of, words_of}
+use Rattle.flp_report.specs.Shape.{part_words, words_of, words_start}
+use Rattle.flp_report.specs.Head.{number_at}
 use Rattle.flp_report.specs.Words.{words}
 
 -- a record's bytes
@@ -17,21 +18,29 @@ shape_of r = r.shape
 abbrev pub nonce_in : List ℕ → List ℕ
 nonce_in bytes = take 16 bytes
 
--- the words of a record, numbered from 0 behind the nonce
+-- its bucket: version 1 has one
+abbrev pub bucket_in : Shape → List ℕ → ℕ
+bucket_in s bytes = if s.version == 2 then number_at 16 bytes else 0
+
+-- the bucket that is written in it, where the version has them
+abbrev pub bucket_read : Shape → List ℕ → Option ℕ
+bucket_read s bytes = if s.version == 2 then Some (bucket_in s bytes) else None
+
+-- the words of a record, numbered from 0
 abbrev pub words_in : Shape → List ℕ → List ℕ
-words_in s bytes = words (words_of s) (drop 16 bytes)
+words_in s bytes = words (words_of s) (drop (words_start s) bytes)
 
 -- the bytes of one share's part
 abbrev pub share_in : Shape → List ℕ → ℕ → List ℕ
-share_in s bytes share = take (8 * part_of s) (drop (16 + 8 * (share * part_of s)) bytes)
+share_in s bytes share = take (8 * part_words s) (drop (words_start s + 8 * (share * part_words s)) bytes)
 
 -- the number of the first of one proof's joint and query words
 abbrev pub own_word : Shape → ℕ → ℕ
-own_word s proof = s.shares * part_of s + proof * (s.joint + s.query)
+own_word s proof = s.shares * part_words s + proof * (s.joint + s.query)
 
 -- where they begin
 abbrev pub own_start : Shape → ℕ → ℕ
-own_start s proof = 16 + 8 * own_word s proof
+own_start s proof = words_start s + 8 * own_word s proof
 
 -- the bytes of one proof's joint words
 abbrev pub joint_in : Shape → List ℕ → ℕ → List ℕ

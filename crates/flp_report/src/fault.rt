@@ -9,7 +9,7 @@ use std::alloc::AllocError;
 pub enum BatchFault {
     /// The file begins with other letters.
     Magic,
-    /// The version, which is not 1.
+    /// The version, which is outside those that are read.
     Version(u32),
     /// The number of shares, which is outside 2 to 16.
     Shares(u32),
@@ -20,7 +20,7 @@ pub enum BatchFault {
     /// The number of the first old claim that is not above the one before, where the first claim of
     /// all has the number 0.
     ClaimsOrder(u32),
-    /// The size that is above its limit: of a record or a job, of the old claims, of the whole file,
+    /// The size that is above its limit: of a record or a job, of the old claims, of a whole job file,
     /// or of the batch that would be written of the jobs.
     TooLarge(u64),
     /// The input ended after the first number of bytes, where the second was needed.
@@ -32,6 +32,13 @@ pub enum BatchFault {
     Word(u32, u32),
     /// Where a party is asked for alone: the number of shares, which is not above the party.
     Party(u32),
+    /// In a batch of version 2 alone: the number of buckets, which is outside 1 to 256.
+    Buckets(u32),
+    /// The numbers that are summed, the outs of each bucket, which are above 65,536.
+    Width(u64),
+    /// In a batch of version 2 alone: the number of the first whole record, counted from 0, whose
+    /// bucket is not below the number of buckets, and that bucket.
+    Bucket(u32, u32),
 }
 
 /// Why a call of a reader gave nothing. After any of these the reader answers no further call.

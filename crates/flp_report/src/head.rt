@@ -1,11 +1,10 @@
 //! How a batch and a job file begin: letters, numbers and the circuit text.
-ghost use Rattle.std.specs.Prelude.{◌≡◌, ◌+◌, ◌<◌, ◌≤◌, ◌≢◌, ◌++◌, ℕ, List, None, Some, length, Err, IfOk, IfErr, OnOk, IfSome};
+ghost use Rattle.std.specs.Prelude.{◌≡◌, ◌+◌, ◌<◌, ◌≤◌, ◌≢◌, ◌++◌, ℕ, List, None, Some, length, Err, IfOk, IfErr, IsOk, OnOk, IfSome};
 ghost use Rattle.std.specs.Io.KnownBytes.{Consumes};
-ghost use Rattle.flp_io.specs.Faults.{Rose};
-ghost use Rattle.flp_io.specs.Reads.{ConsumesSome};
+ghost use Rattle.flp_io.specs.Reads.{ConsumesAtMost, ReadsFrom};
 ghost use Rattle.flp_report.specs.Fault.{IfBatch, first_of};
-ghost use Rattle.flp_report.specs.Head.{number_at, numbers_fault, start_fault, head_fault, head_size, IsStart, IsNumbersFault, IsHeadFault};
-ghost use Rattle.flp_report.specs.Reads.{ConsumesAtMost, ConsumesWithin};
+ghost use Rattle.flp_report.specs.Head.{number_at, numbers_fault, start_fault, head_fault, head_takes, IsStart, IsNumbersFault, IsStartFault, IsHeadFault};
+ghost use Rattle.flp_report.specs.Reads.{ConsumesWithin};
 
 use crate::fault::{BatchFault, ReadFault};
 use crate::read::{read_growing, read_whole};
@@ -21,19 +20,24 @@ pub(crate) fn number_at(bytes: &[u8], place: usize) -> u32
     LittleEndian::read_u32(&bytes[place..])
 }
 
-/// Whether the letters and numbers with which a file begins are those of a file of this version.
-fn check_numbers(head: &[u8], letters: &[u8], party: Option<u32>) -> Result<(), BatchFault>
+/// Whether the letters and numbers with which a file begins are those of a file of a version up to the newest.
+fn check_numbers(
+    head: &[u8],
+    letters: &[u8],
+    newest: u32,
+    party: Option<u32>,
+) -> Result<(), BatchFault>
     requires { 24 ≤ length head.now }
-    ensures none { OnOk result (numbers_fault letters.now party head.now ≡ None) }
-    ensures fault { IfErr result (λ fault. numbers_fault letters.now party head.now ≡ Some fault) }
-    ensures kind { IfErr result (IsNumbersFault party) }
-    ensures numbers { OnOk result (IsStart party head.now) }
+    ensures none { OnOk result (numbers_fault letters.now newest party head.now ≡ None) }
+    ensures fault { IfErr result (λ fault. numbers_fault letters.now newest party head.now ≡ Some fault) }
+    ensures kind { IfErr result (IsNumbersFault newest party) }
+    ensures numbers { OnOk result (IsStart newest party head.now) }
 {
     if !head.starts_with(letters) {
         return Err(BatchFault::Magic);
     }
     let version = number_at(head, 8);
-    if version != 1 {
+    if version < 1 || newest < version {
         return Err(BatchFault::Version(version));
     }
     let shares = number_at(head, 12);
@@ -56,38 +60,40 @@ fn check_numbers(head: &[u8], letters: &[u8], party: Option<u32>) -> Result<(), 
     Ok(())
 }
 
-/// Reads what stands in front of the text into `head`, which is as long as that.
-fn read_start<S: Source>(
+/// Reads the bytes with which a file begins into `head`, which is as long as they are.
+pub(crate) fn read_start<S: Source>(
     source: &mut S,
     head: &mut [u8],
     letters: &[u8],
+    newest: u32,
     party: Option<u32>,
 ) -> Result<(), ReadFault>
+    requires ready { S.ready source.old }
     requires size { (24 ≤ length head.old) × (length head.old ≤ 32) }
     requires letters { length letters.now ≡ 8 }
     ensures bytes { OnOk result (Consumes (S.left source.old) (S.left source.new) head.new) }
-    ensures none { OnOk result (numbers_fault letters.now party head.new ≡ None) }
-    ensures numbers { OnOk result (IsStart party head.new) }
+    ensures none { OnOk result (numbers_fault letters.now newest party head.new ≡ None) }
+    ensures numbers { OnOk result (IsStart newest party head.new) }
     ensures fault { IfErr result (λ fault. IfBatch fault (λ b. IfSome (S.left source.old)
-        (λ bytes. start_fault letters.now (length head.old) party bytes ≡ Some b))) }
-    ensures kind { IfErr result (λ fault. IfBatch fault (IsHeadFault (length head.old) party)) }
+        (λ bytes. start_fault letters.now (length head.old) newest party bytes ≡ Some b))) }
+    ensures kind { IfErr result (λ fault. IfBatch fault (IsStartFault (length head.old) newest party)) }
     ensures no_memory { result ≢ Err ReadFault.Memory }
-
-    // At every outcome.
-    ensures moved { ConsumesSome (S.left source.old) (S.left source.new) }
-    ensures few { ConsumesAtMost (length head.old) (S.left source.old) (S.left source.new) }
-    ensures failed { result ≡ Err ReadFault.Failed → Rose (S.faults source.old) (S.faults source.new) }
-    ensures later { S.faults source.old ≤ S.faults source.new }
+    ensures source { ReadsFrom S.left S.faults S.ready source.old source.new
+        (ConsumesAtMost (length head.old)) (result ≡ Err ReadFault.Failed) (IsOk result) }
 {
     let size = head.len() as u64;
-    read_whole(source, head, 0, size)?;
-    match check_numbers(head, letters, party) {
+    match read_whole(source, head, 0, size) {
+        Ok(()) => {}
+        Err(fault) => return Err(fault),
+    }
+    match check_numbers(head, letters, newest, party) {
         Ok(()) => Ok(()),
         Err(fault) => Err(ReadFault::Batch(fault)),
     }
 }
 
-/// Reads what stands in front of the text into `head`, which is as long as that, and then the text.
+/// Reads what stands in front of the text of a file of version 1 alone into `head`, which is as long as
+/// that, and then the text.
 pub(crate) fn read_head<S: Source>(
     alloc: Global,
     source: &mut S,
@@ -95,24 +101,21 @@ pub(crate) fn read_head<S: Source>(
     letters: &[u8],
     party: Option<u32>,
 ) -> Result<Vec<u8>, ReadFault>
+    requires ready { S.ready source.old }
     requires size { (24 ≤ length head.old) × (length head.old ≤ 32) }
     requires letters { length letters.now ≡ 8 }
     ensures bytes { IfOk result (λ text. Consumes (S.left source.old) (S.left source.new) (head.new ++ text.items)) }
     ensures text { IfOk result (λ text. length text.items ≡ number_at 20 head.new) }
-    ensures none { OnOk result (numbers_fault letters.now party head.new ≡ None) }
-    ensures numbers { OnOk result (IsStart party head.new) }
+    ensures none { OnOk result (numbers_fault letters.now 1 party head.new ≡ None) }
+    ensures numbers { OnOk result (IsStart 1 party head.new) }
     ensures fault { IfErr result (λ fault. IfBatch fault (λ b. IfSome (S.left source.old)
         (λ bytes. head_fault letters.now (length head.old) party bytes ≡ Some b))) }
     ensures kind { IfErr result (λ fault. IfBatch fault (IsHeadFault (length head.old) party)) }
-
-    // At every outcome.
-    ensures moved { ConsumesSome (S.left source.old) (S.left source.new) }
-    ensures few { ConsumesWithin (head_size letters.now (length head.old) party) (S.left source.old) (S.left source.new) }
-    ensures failed { result ≡ Err ReadFault.Failed → Rose (S.faults source.old) (S.faults source.new) }
-    ensures later { S.faults source.old ≤ S.faults source.new }
+    ensures source { ReadsFrom S.left S.faults S.ready source.old source.new
+        (ConsumesWithin (head_takes letters.now (length head.old) party)) (result ≡ Err ReadFault.Failed) (IsOk result) }
 {
     let start = head.len() as u64;
-    match read_start(source, head, letters, party) {
+    match read_start(source, head, letters, 1, party) {
         Ok(()) => {}
         Err(fault) => return Err(fault),
     }

@@ -23,7 +23,7 @@ pub struct Job<'a> {
 
 impl<'a> Job<'a> {
     ghost use Rattle.flp_report.specs.Job.{job_bad_word};
-    ghost use Rattle.flp_report.specs.JobParts.{job_of, job_shape_of, input_in, parts_in, seeds_start, seeds_in, job_own_start, job_joint_in, job_query_in};
+    ghost use Rattle.flp_report.specs.JobParts.{job_of, job_shape_of, input_in, parts_in, seeds_start, seeds_in_job, job_own_start, job_joint_in, job_query_in};
 
     /// The 16 bytes that tell the report from others.
     pub fn nonce(&self) -> &'a [u8]
@@ -62,7 +62,7 @@ impl<'a> Job<'a> {
     /// The bytes of one proof's seeds. Proofs are numbered from 0.
     pub fn seeds(&self, proof: u32) -> &'a [u8]
         requires { proof < (job_shape_of self.now).proofs }
-        ensures { result.now ≡ seeds_in (job_shape_of self.now) (job_of self.now) proof }
+        ensures { result.now ≡ seeds_in_job (job_shape_of self.now) (job_of self.now) proof }
     {
         let start = self.seeds_place(proof);
         &self.bytes[start..start + 8 * self.shape.prove as usize]
@@ -128,7 +128,7 @@ pub struct Jobs {
 impl Jobs {
     ghost use Rattle.flp_report.specs.Job.{word_fault};
     ghost use Rattle.flp_report.specs.JobParts.{job_of, job_shape_of, jobs_shape, jobs_count, jobs_bytes, job_in, jobs_in};
-    ghost use Rattle.flp_report.specs.JobWords.{first_word};
+    ghost use Rattle.flp_report.specs.Job.{first_word};
 
     /// The jobs of this shape in these bytes.
     pub(crate) fn from_vec(shape: JobShape, count: u32, bytes: Vec<u8>) -> Jobs

@@ -1,17 +1,7 @@
-//! The numbers that fix where each part of a job stands, and what stands in front of the jobs.
+//! The numbers that fix where each part of a job stands.
 ghost use Rattle.std.specs.Prelude.{◌≡◌, ◌-◌, ◌≤◌, ◌<◌, ◌^◌};
 
-use flp_list::Bytes;
-
-/// What stands in front of the jobs of a job file: how many shares and proofs the reports shall
-/// have, the circuit text, and how many jobs follow.
-#[derive(Debug, PartialEq, Eq, Drop)]
-pub struct JobHeader {
-    pub shares: u32,
-    pub proofs: u32,
-    pub text: Bytes,
-    pub jobs: u32,
-}
+use crate::shape::Shape;
 
 /// How many shares and proofs a report of a job has, at most 16 each, and how many words each part
 /// of a job has, whatever the circuit.
@@ -37,7 +27,8 @@ pub struct JobShape {
 }
 
 impl JobShape {
-    ghost use Rattle.flp_report.specs.Job.{job_part_of, job_words_of, job_bytes_of, made_bytes_of, free_words};
+    ghost use Rattle.flp_report.specs.Job.{record_shape, job_part_of, job_words_of, job_bytes_of, free_words};
+    ghost use Rattle.flp_report.specs.Shape.{bytes_of};
 
     /// The shape with nothing but a nonce, which a reader has before it is given one.
     pub(crate) const NONE: JobShape = JobShape {
@@ -53,12 +44,29 @@ impl JobShape {
         written: false,
     };
 
+    /// The shape of the record of version 1 that is made of a job, without the outs of the circuit.
+    pub fn record(&self) -> Shape
+        ensures { result ≡ record_shape self.now 0 }
+    {
+        Shape {
+            version: 1,
+            shares: self.shares,
+            proofs: self.proofs,
+            buckets: 1,
+            meas: self.meas,
+            joint: self.joint,
+            query: self.query,
+            proof: self.proof,
+            outs: 0,
+        }
+    }
+
     /// The words of one share's part of a report.
     pub fn part(&self) -> u64
         ensures words { result ≡ job_part_of self.now }
         ensures short { result < 2 ^ 37 }
     {
-        u64::from(self.meas) + u64::from(self.proofs) * u64::from(self.proof)
+        self.record().part()
     }
 
     /// The shares whose words a job gives: all but the first.
@@ -85,14 +93,6 @@ impl JobShape {
         ensures short { result < 2 ^ 47 }
     {
         16 + 8 * self.words()
-    }
-
-    /// The bytes of the record that is made of a job.
-    pub fn record_bytes(&self) -> u64
-        ensures { result ≡ made_bytes_of self.now }
-    {
-        let own = u64::from(self.joint) + u64::from(self.query);
-        16 + 8 * (u64::from(self.shares) * self.part() + u64::from(self.proofs) * own)
     }
 
     /// How many words of a job, its first ones, may have any value.

@@ -1,20 +1,23 @@
 //! One record of a batch, whose bytes are lent.
-ghost use Rattle.std.specs.Prelude.{◌≡◌, ◌+◌, ◌*◌, ◌<◌, ◌≤◌, length, drop, All};
+ghost use Rattle.std.specs.Prelude.{◌≡◌, ◌+◌, ◌*◌, ◌<◌, ◌≤◌, length, drop, All, OnOk};
+ghost use Rattle.std.specs.Result.{result_err};
 ghost use Rattle.byteorder.specs.Endian.{little_number};
 ghost use Rattle.flp_field.specs.Word.{IsWord};
-ghost use Rattle.flp_report.specs.Shape.{bytes_of};
+ghost use Rattle.flp_report.specs.Shape.{words_of, words_start, bytes_of};
 ghost use Rattle.flp_report.specs.Words.{words, bad_word_in};
 ghost use Rattle.flp_report.specs.declared.shape.TheConstants.{RECORD_LIMIT};
 
+use crate::head;
 use crate::shape::{RECORD_LIMIT, Shape};
 use byteorder::{ByteOrder, LittleEndian};
 use flp_field::{Fe, MODULUS};
 
-/// A record: a nonce of 16 bytes, and then its words in 8 bytes each, the lowest byte first.
+/// A record: a nonce of 16 bytes, in version 2 its bucket in 4 bytes, and then its words in 8 bytes
+/// each, the lowest byte first.
 ///
 /// The words are, for each share, those of its share of the encoding and of each proof; and then,
-/// for each proof, its joint words and its query words. Every part is lent without copying, and
-/// [`load`] brings it into the field once [`bad_word`](Record::bad_word) found none.
+/// for each proof, its joint words and its query words. Every part is lent without copying.
+/// [`load`](Record::load) brings all words into the field.
 #[derive(Clone, Copy, Debug)]
 pub struct Record<'a> {
     shape: Shape,
@@ -24,7 +27,7 @@ pub struct Record<'a> {
 }
 
 impl<'a> Record<'a> {
-    ghost use Rattle.flp_report.specs.Record.{record_of, shape_of, nonce_in, words_in, share_in, own_start, joint_in, query_in};
+    ghost use Rattle.flp_report.specs.Record.{record_of, shape_of, nonce_in, bucket_in, words_in, share_in, own_start, joint_in, query_in};
 
     /// The record of these bytes, as many as the shape says.
     pub(crate) fn new(shape: Shape, bytes: &'a [u8]) -> Record<'a>
@@ -43,6 +46,18 @@ impl<'a> Record<'a> {
         &self.bytes[..16]
     }
 
+    /// Its bucket, which is 0 in version 1. In a record that a reader gave it is below the shape's
+    /// number of buckets.
+    pub fn bucket(&self) -> u32
+        ensures { result ≡ bucket_in (shape_of self.now) (record_of self.now) }
+    {
+        if self.shape.version == 2 {
+            head::number_at(self.bytes, 16)
+        } else {
+            0
+        }
+    }
+
     /// The bytes of one share's part, [`Shape::part`] words: the encoding's words, and then the words
     /// of each proof. Shares are numbered from 0.
     pub fn share(&self, share: u32) -> &'a [u8]
@@ -50,7 +65,7 @@ impl<'a> Record<'a> {
         ensures { result.now ≡ share_in (shape_of self.now) (record_of self.now) share }
     {
         let size = self.shape.part() as usize * 8;
-        let start = 16 + share as usize * size;
+        let start = self.shape.start() as usize + share as usize * size;
         &self.bytes[start..start + size]
     }
 
@@ -62,7 +77,7 @@ impl<'a> Record<'a> {
     {
         let shares = u64::from(self.shape.shares) * self.shape.part();
         let own = u64::from(self.shape.joint) + u64::from(self.shape.query);
-        (16 + 8 * (shares + u64::from(proof) * own)) as usize
+        (self.shape.start() + 8 * (shares + u64::from(proof) * own)) as usize
     }
 
     /// The bytes of one proof's joint words. Proofs are numbered from 0.
@@ -83,12 +98,30 @@ impl<'a> Record<'a> {
         &self.bytes[start..start + 8 * self.shape.query as usize]
     }
 
-    /// The number of the first word, from 0 after the nonce, that is not below the modulus; `None`
+    /// Brings all words into the field, in their order. `out` has a place for each.
+    ///
+    /// An error is the number of the first word, from 0, that is not below the modulus.
+    pub fn load(&self, out: &mut [Fe]) -> Result<(), u32>
+        requires { length out.old ≡ words_of (shape_of self.now) }
+        ensures words { OnOk result (out.new ≡ words_in (shape_of self.now) (record_of self.now)) }
+        ensures bad { result_err result ≡ bad_word_in (words_in (shape_of self.now) (record_of self.now)) }
+    {
+        let words = &self.bytes[self.shape.start() as usize..];
+        for (word, place) in out.iter_mut().enumerate() {
+            match Fe::new(number_at(words, word)) {
+                Some(value) => *place = value,
+                None => return Err(word as u32),
+            }
+        }
+        Ok(())
+    }
+
+    /// The number of the first word, from 0, that is not below the modulus; `None`
     /// where all words are words of the field.
     pub fn bad_word(&self) -> Option<u32>
         ensures { result ≡ bad_word_in (words_in (shape_of self.now) (record_of self.now)) }
     {
-        let words = &self.bytes[16..];
+        let words = &self.bytes[self.shape.start() as usize..];
         let count = self.shape.words() as u32;
         for word in 0..count {
             if number_at(words, word as usize) >= MODULUS {

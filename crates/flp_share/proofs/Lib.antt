@@ -1,5 +1,5 @@
--- The lemmas of shares.
+-- The lemmas of shares. Crates above cite those of `pub mod`.
 -- differences and sums of shares
 pub mod Sharings
 -- all shares but one
-pub mod OtherShares
+mod OtherShares

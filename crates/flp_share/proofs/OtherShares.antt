@@ -7,8 +7,9 @@ use Rattle.std.proofs.lemmas.List.Elements.{All-append, All-cons, All-take, All-
 use Rattle.std.proofs.lemmas.List.Edits.{length-insert, remove-append_right}
 use Rattle.std.proofs.lemmas.List.Sums.{sum_by-insert, sum_by-remove}
 use Rattle.flp_field.specs.Word.{modulus, IsWord, AreWords, word_difference}
-use Rattle.flp_field.specs.Sums.{sum_of_lists, parts_of, sum_of_parts}
-use Rattle.flp_field.proofs.ListSums.{column, get_or-sum_of_lists, sum_of_lists_from, length-parts_of, parts_of-size, parts_of-words, concat-parts_of, parts_of-concat, length-concat, words-concat}
+use Rattle.flp_field.specs.Sums.{total_at, sum_of_lists, parts_of, sum_of_parts}
+use Rattle.flp_field.proofs.ListSums.{get_or-sum_of_lists, sum_of_lists_from}
+use Rattle.flp_field.proofs.ListParts.{length-parts_of, parts_of-size, parts_of-words, concat-parts_of, parts_of-concat, length-concat, words-concat}
 use Rattle.flp_share.specs.Shares.{difference_of, first_share, shares_of, IsShare, GivesOthers}
 use Rattle.flp_share.proofs.Sharings.{length-difference_of, get_or-difference_of, words-difference_of, shares_sum_up, each_sharing_is_split, length-shares_of, words-shares_of}
 
@@ -40,8 +41,8 @@ same_beside : (a b c x : ℕ) → a < modulus → b < modulus → x ≡ (c + a) 
 same_beside a b c x a_below b_below left right = omega arith
 
 -- the words with this index beside the list at a place, and its own
-column-remove : (lists : List (List ℕ)) (place k : ℕ) → place < length lists → column lists k ≡ column (remove lists place) k + get_or (get_or lists place []) k 0
-column-remove lists place k inside =
+total_at-remove : (lists : List (List ℕ)) (place k : ℕ) → place < length lists → total_at lists k ≡ total_at (remove lists place) k + get_or (get_or lists place []) k 0
+total_at-remove lists place k inside =
     sym (sum_by-remove (λ (words : List ℕ). get_or words k 0) lists place [] inside)
 
 -- lists with one sum that are the same beside one place are the same there
@@ -51,14 +52,14 @@ same_there n place x p q in_p in_q p_sizes q_sizes p_words q_words p_sum q_sum o
     let q_size : length (get_or q place []) ≡ n = All-get_or (λ (part : List ℕ). length part ≡ n) q place [] in_q q_sizes in
     ext_get_or 0 (get_or p place []) (get_or q place []) (p_size ∙ sym q_size)
     (λ (k : ℕ) (below : k < length (get_or p place [])).
-    same_beside (get_or (get_or p place []) k 0) (get_or (get_or q place []) k 0) (column (remove q place) k) (get_or x k 0)
+    same_beside (get_or (get_or p place []) k 0) (get_or (get_or q place []) k 0) (total_at (remove q place) k) (get_or x k 0)
     (All-get_or IsWord (get_or p place []) k 0 below (All-get_or AreWords p place [] in_p p_words))
     (All-get_or IsWord (get_or q place []) k 0 (omega arith) (All-get_or AreWords q place [] in_q q_words))
     (ap (λ (words : List ℕ). get_or words k 0) (sym p_sum) ∙ get_or-sum_of_lists n p k (omega arith)
-    ∙ ap (λ (c : ℕ). c % modulus) (column-remove p place k in_p)
-    ∙ ap (λ (lists : List (List ℕ)). (column lists k + get_or (get_or p place []) k 0) % modulus) others)
+    ∙ ap (λ (c : ℕ). c % modulus) (total_at-remove p place k in_p)
+    ∙ ap (λ (lists : List (List ℕ)). (total_at lists k + get_or (get_or p place []) k 0) % modulus) others)
     (ap (λ (words : List ℕ). get_or words k 0) (sym q_sum) ∙ get_or-sum_of_lists n q k (omega arith)
-    ∙ ap (λ (c : ℕ). c % modulus) (column-remove q place k in_q)))
+    ∙ ap (λ (c : ℕ). c % modulus) (total_at-remove q place k in_q)))
 
 -- and so they are the same lists
 same_lists_with_sum : (n place : ℕ) (x : List ℕ) (p q : List (List ℕ)) → place < length p → place < length q → All (λ (part : List ℕ). length part ≡ n) p → All (λ (part : List ℕ). length part ≡ n) q → All AreWords p → All AreWords q → sum_of_lists n p ≡ x → sum_of_lists n q ≡ x → remove p place ≡ remove q place → p ≡ q
@@ -122,11 +123,11 @@ completed_sum place x others are =
     (sum_of_lists_from (length x) x (insert others place (difference_of x (sum_of_lists (length x) others))) refl
     (λ (k : ℕ) (below : k < length x).
     let word : get_or x k 0 < modulus = All-get_or IsWord x k 0 below are in
-    let rest : get_or (sum_of_lists (length x) others) k 0 ≡ column others k % modulus =
+    let rest : get_or (sum_of_lists (length x) others) k 0 ≡ total_at others k % modulus =
     get_or-sum_of_lists (length x) others k below in
     let here : get_or (difference_of x (sum_of_lists (length x) others)) k 0 ≡ word_difference (get_or x k 0) (get_or (sum_of_lists (length x) others) k 0) =
     get_or-difference_of x (sum_of_lists (length x) others) k below in
-    let whole : column (insert others place (difference_of x (sum_of_lists (length x) others))) k ≡ column others k + get_or (difference_of x (sum_of_lists (length x) others)) k 0 =
+    let whole : total_at (insert others place (difference_of x (sum_of_lists (length x) others))) k ≡ total_at others k + get_or (difference_of x (sum_of_lists (length x) others)) k 0 =
     sum_by-insert (λ (words : List ℕ). get_or words k 0) others place (difference_of x (sum_of_lists (length x) others)) in
     omega arith))
 

@@ -5,9 +5,10 @@ use Rattle.std.proofs.lemmas.List.{length-take-le, length-append, take-append-dr
 use Rattle.std.proofs.lemmas.List.Elements.{All-append, All-take, All-from_get_or, All-get_or}
 use Rattle.std.proofs.lemmas.List.FromFn.{length-map-range_with_len, get_or-map-range_with_len, fill_by_all}
 use Rattle.flp_field.specs.Word.{modulus, IsWord, AreWords, word_difference}
-use Rattle.flp_field.specs.Sums.{sum_of_lists, parts_of, sum_of_parts}
+use Rattle.flp_field.specs.Sums.{total_at, sum_of_lists, parts_of, sum_of_parts}
 use Rattle.flp_field.proofs.Congruence.{mod_word}
-use Rattle.flp_field.proofs.ListSums.{column, column-cons, get_or-sum_of_lists, sum_of_lists_from, parts_of-append}
+use Rattle.flp_field.proofs.ListSums.{total_at-cons, get_or-sum_of_lists, sum_of_lists_from}
+use Rattle.flp_field.proofs.ListParts.{parts_of-append}
 use Rattle.flp_share.specs.Shares.{difference_of, first_share, shares_of}
 
 pub length-difference_of : (xs ys : List ℕ) → length (difference_of xs ys) ≡ length xs
@@ -40,9 +41,9 @@ sum_with_first shares count x first words more size undone =
     ∙ sym
     (sum_of_lists_from (length x) x (first ∷ parts_of count (length x) words) refl
     (λ (k : ℕ) (below : k < length x).
-    let whole : column (first ∷ parts_of count (length x) words) k ≡ get_or first k 0 + column (parts_of count (length x) words) k =
-    column-cons first (parts_of count (length x) words) k in
-    let others : get_or (sum_of_parts count (length x) words) k 0 ≡ column (parts_of count (length x) words) k % modulus =
+    let whole : total_at (first ∷ parts_of count (length x) words) k ≡ get_or first k 0 + total_at (parts_of count (length x) words) k =
+    total_at-cons first (parts_of count (length x) words) k in
+    let others : get_or (sum_of_parts count (length x) words) k 0 ≡ total_at (parts_of count (length x) words) k % modulus =
     get_or-sum_of_lists (length x) (parts_of count (length x) words) k below in
     let here : (get_or first k 0 + get_or (sum_of_parts count (length x) words) k 0) % modulus ≡ get_or x k 0 =
     undone k below in
@@ -54,10 +55,10 @@ shares_sum_up shares x words some are =
     (length-difference_of x (sum_of_parts (shares - 1) (length x) words))
     (λ (k : ℕ) (below : k < length x).
     let word : get_or x k 0 < modulus = All-get_or IsWord x k 0 below are in
-    let others : get_or (sum_of_parts (shares - 1) (length x) words) k 0 ≡ column (parts_of (shares - 1) (length x) words) k % modulus =
+    let others : get_or (sum_of_parts (shares - 1) (length x) words) k 0 ≡ total_at (parts_of (shares - 1) (length x) words) k % modulus =
     get_or-sum_of_lists (length x) (parts_of (shares - 1) (length x) words) k below in
-    let sum_word : column (parts_of (shares - 1) (length x) words) k % modulus < modulus =
-    mod_word (column (parts_of (shares - 1) (length x) words) k) in
+    let sum_word : total_at (parts_of (shares - 1) (length x) words) k % modulus < modulus =
+    mod_word (total_at (parts_of (shares - 1) (length x) words) k) in
     ap (λ (d : ℕ). (d + get_or (sum_of_parts (shares - 1) (length x) words) k 0) % modulus)
     (get_or-difference_of x (sum_of_parts (shares - 1) (length x) words) k below)
     ∙ difference_undone (get_or x k 0) (get_or (sum_of_parts (shares - 1) (length x) words) k 0) word (omega arith))
@@ -77,13 +78,13 @@ each_sharing_is_split (suc count) x all some are size sum =
     (λ (k : ℕ). word_difference (get_or x k 0) (get_or (sum_of_parts count (length x) (drop (length x) all)) k 0))
     (take (length x) all) (length x) 0 first_size
     (λ (k : ℕ) (below : k < length x).
-    recovered (get_or (take (length x) all) k 0) (column (parts_of count (length x) (drop (length x) all)) k)
+    recovered (get_or (take (length x) all) k 0) (total_at (parts_of count (length x) (drop (length x) all)) k)
     (get_or x k 0) (get_or (sum_of_parts count (length x) (drop (length x) all)) k 0)
     (All-get_or IsWord (take (length x) all) k 0 (omega arith) (All-take IsWord (length x) all are))
     (ap (λ (words : List ℕ). get_or words k 0) (sym sum)
     ∙ get_or-sum_of_lists (length x) (parts_of (suc count) (length x) all) k below
     ∙ ap (λ (c : ℕ). c % modulus)
-    (column-cons (take (length x) all) (parts_of count (length x) (drop (length x) all)) k))
+    (total_at-cons (take (length x) all) (parts_of count (length x) (drop (length x) all)) k))
     (get_or-sum_of_lists (length x) (parts_of count (length x) (drop (length x) all)) k below)) in
     ap (λ (c : ℕ). difference_of x (sum_of_parts c (length x) (drop (length x) all)) ++ drop (length x) all) one_less
     ∙ ap (λ (words : List ℕ). words ++ drop (length x) all) (sym first)

@@ -7,6 +7,8 @@
 //! the other laws are the contracts of the functions in [`laws`]; the definitions that contracts cite are
 //! in `specs/Shares.antt` and in flp_field's `specs/Sums.antt`.
 //!
+//! Where shares do not stand in one slice, their sum is made with [`clear`] and an [`add_to`] for each.
+//!
 //! No call takes memory: results go to the slice that the caller lends. Where the given words come from is
 //! the caller's affair; for shares that hide an encoding they are to be random.
 //!
@@ -17,7 +19,4 @@
 pub mod laws;
 mod shares;
 
-pub use shares::{split, unshare};
-
-#[cfg(test)]
-mod tests;
+pub use shares::{add_to, clear, split, unshare};

@@ -1,7 +1,8 @@
 //! An encoding is split into shares, and shares are summed up.
-ghost use Rattle.std.specs.Prelude.{◌≡◌, ◌-◌, ◌*◌, ◌≤◌, length, slice_index, EachIndex};
+ghost use Rattle.std.specs.Prelude.{◌≡◌, ◌-◌, ◌*◌, ◌≤◌, [], length, slice_index, EachIndex};
 ghost use Rattle.flp_field.specs.Word.{word_sum};
-ghost use Rattle.flp_field.specs.Sums.{sum_of_parts};
+ghost use Rattle.flp_field.specs.Sums.{sum_of_lists, sum_of_parts};
+ghost use Rattle.flp_share.specs.Adding.{AddsList};
 ghost use Rattle.flp_share.specs.Shares.{difference_of, shares_of};
 
 use flp_field::Fe;
@@ -30,7 +31,7 @@ pub fn unshare(parts: &[Fe], shares: u32, out: &mut [Fe])
     requires { length parts.now ≡ shares * length out.old }
     ensures { out.new ≡ sum_of_parts shares (length out.old) parts.now }
 {
-    out.fill(Fe::ZERO);
+    clear(out);
     let mut rest = parts;
     for _ in 0..shares {
         let (part, behind) = rest.split_at(out.len());
@@ -39,13 +40,20 @@ pub fn unshare(parts: &[Fe], shares: u32, out: &mut [Fe])
     }
 }
 
-/// Adds the words of `part` to the words of `sum` with the same index.
-fn add_to(part: &[Fe], sum: &mut [Fe])
-    requires { length part.now ≡ length sum.old }
-    ensures { EachIndex sum.old (λ k. slice_index sum.new k ≡ word_sum (slice_index sum.old k) (slice_index part.now k)) }
+/// Makes `sum` the sum of no lists: each word is 0.
+pub fn clear(sum: &mut [Fe])
+    ensures { sum.new ≡ sum_of_lists (length sum.old) [] }
+{
+    sum.fill(Fe::ZERO);
+}
+
+/// Adds a list of words to a sum, word by word: the sum of some lists becomes that of these and of `words`.
+pub fn add_to(words: &[Fe], sum: &mut [Fe])
+    requires { length words.now ≡ length sum.old }
+    ensures { AddsList words.now sum.old sum.new }
 {
     for (k, word) in sum.iter_mut().enumerate() {
-        *word = word.add(part[k]);
+        *word = word.add(words[k]);
     }
 }
 

@@ -1,9 +1,12 @@
 -- The syntax types of the program as plain data: what each of them holds.
 use Rattle.std.specs.Prelude.{ℕ, Bool, List, map, ◌≡◌}
 use Rattle.std.proofs.Common.{sym, ◌∙◌, ap}
+use Rattle.std.specs.Borrow.{Bor}
 use Rattle.std.specs.declared.boxed.Box.{Box}
 use Rattle.std.specs.declared.alloc.Global.{Global}
 use Rattle.flp_syntax.specs.Tree.{Index, index_number, index_var, index_add, index_mul, index_items, indices, Tree, number, var, joint, meas, meas_or_zero, sum, call, add, mul, pow, items, trees, Argument, one, each_arg, arguments, Statement, check, out, each, statements, Kind, mul_kind, poly_kind, psum_kind, Declaration, Program, Text, standard, program}
+use Rattle.flp_syntax.specs.Scope.{Scope, Names}
+use Rattle.flp_syntax.specs.declared.scope.Bound.{Bound}
 use Rattle.flp_syntax.specs.declared.syntax.Coef.{Coef}
 use Rattle.flp_syntax.specs.declared.syntax.Idx.{Idx, fold-Idx, fold-roll-Idx}
 use Rattle.flp_syntax.specs.declared.syntax.Idx.TheOpen as idx_open
@@ -204,5 +207,12 @@ abbrev pub text_of : Circuit → Text
 text_of (circuit.Standard params) = standard params
 text_of (circuit.Body body) = program (program_of body)
 
--- the equations of these views
+-- the loops round a place, and their names
+abbrev pub scope_of : List Bound → Scope
+scope_of bounds = map (λ bound. record { name = bound.name.now; value = bound.value }) bounds
+
+abbrev pub names_of : List (Bor (List ℕ)) → Names
+names_of names = map (λ name. name.now) names
+
+-- the equations of the views of trees
 pub ruleset view_equations = (index_of_Number, index_of_Var, index_of_Add, index_of_Mul, index_item_of_roll, arg_of_One, arg_of_Each, tree_of_Number, tree_of_Var, tree_of_Joint, tree_of_Meas, tree_of_MeasOrZero, tree_of_Sum, tree_of_Call, tree_of_Add, tree_of_Mul, tree_of_Pow, item_of_roll, statement_of_Check, statement_of_Out, statement_of_Each, kind_of_Mul, kind_of_Poly, kind_of_Psum)

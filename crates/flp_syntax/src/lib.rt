@@ -6,10 +6,16 @@
 #![tactic(auto)]
 
 mod fault;
+mod place;
+mod scope;
+mod sorts;
 mod syntax;
 mod token;
 
 pub use fault::{Counted, LangFault};
+pub use place::{index_at, tree_at};
+pub use scope::{Bound, bound_value, gadget_number, inside};
+pub use sorts::{has_shared, has_shared_item, is_shared};
 pub use syntax::{
     Arg, Body, Circuit, Coef, Decl, Expr, Idx, IdxItem, Item, KindText, Params, Stmt,
 };

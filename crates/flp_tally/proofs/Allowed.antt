@@ -10,11 +10,11 @@ use Rattle.atomic_table.proofs.Lists.{set_else}
 use Rattle.flp_tally.specs.declared.view.View.{View}
 use Rattle.flp_tally.specs.declared.view.Entry.{Entry}
 use Rattle.flp_tally.specs.declared.view.Shape.{Shape}
-use Rattle.flp_tally.specs.Views.{with_claimed, with_seen, with_missed, with_entry, times, entries_of, kept_half, given_half, joined, spent}
+use Rattle.flp_tally.specs.Views.{with_claimed, with_seen, with_missed, with_entry, MayAdd, kept_half, given_half, joined_view, spent_view}
 use Rattle.flp_tally.specs.Rule.{claim_word, claim_bit, cell_word, Tallies, holds}
-use Rattle.flp_tally.specs.Steps.{Finds, Claimed, Peeked, Added, Learned}
+use Rattle.flp_tally.specs.Steps.{Finds, Claimed, Peeked, Added, Noted, Learned}
 use Rattle.flp_tally.proofs.Moves.{load_keeps, peek_keeps, claim_keeps, split_keeps, join_keeps}
-use Rattle.flp_tally.proofs.Adding.{add_keeps}
+use Rattle.flp_tally.proofs.Adding.{add_keeps, note_keeps}
 use Rattle.flp_tally.proofs.Learning.{tells, learned}
 
 -- one view where the bit is clear, and another where it is set
@@ -67,24 +67,32 @@ module _ (shape : Shape) (slots id : ℕ) (me : Me ℕ View) (some_weight : 1 �
     (learned shape.weight shape.reports shape.elements s.words s.views id v k at some_weight, refl),
   )
 
-pub put_allowed : (shape : Shape) (slots id : ℕ) (me : Me ℕ View) (e d : Entry) (i : ℕ) → 1 ≤ me.0.weight → d ≡ e → i ≡ cell_word shape.reports e.cell → me.0.reports ≡ shape.reports → e.cell < 2 * shape.elements → e.amount < 2 ^ 32
-    → 1 ≤ times e.number me.0.claimed → entries_of e.number e.cell me.0.added ≡ 0
-    → Allows (holds shape) slots id me i (λ n. (n + e.amount) % 2 ^ 64) (λ found w. Added d i e.amount me.0 w.0 × (w.1 ≡ me.1))
-put_allowed shape slots id me e d i some_weight same is reports cell small claimed free s k len at fits = let v = me.0 in (
-  with_entry v e,
-  keeps,
-  tt,
-  subst (λ (z : ℕ). Tallies shape.weight shape.reports shape.elements (set s.words z ((get_or s.words z 0 + e.amount) % 2 ^ 64)) (set s.views id (with_entry v e))) (sym is)
-      (add_keeps shape.weight shape.reports shape.elements s.words s.views id v k at e some_weight cell small claimed free),
-  (
-    subst (λ (z : Entry). Added z i e.amount v (with_entry v e)) (sym same) record { place = is ∙ ap (λ (r : ℕ). cell_word r e.cell) (sym reports); half = refl; after = refl },
-    refl,
-  ),
-)
+module _ (shape : Shape) (slots id : ℕ) (me : Me ℕ View) (e d : Entry) (some_weight : 1 ≤ me.0.weight) (same : d ≡ e) (may : MayAdd shape.elements me.0 e) where
+  pub put_allowed : (i : ℕ) → i ≡ cell_word shape.reports e.cell → me.0.reports ≡ shape.reports → Allows (holds shape) slots id me i (λ n. (n + e.amount) % 2 ^ 64) (λ found w. Added d i e.amount me.0 w.0 × (w.1 ≡ me.1))
+  put_allowed i is reports s k len at fits = let v = me.0 in (
+    with_entry v e,
+    keeps,
+    tt,
+    subst (λ (z : ℕ). Tallies shape.weight shape.reports shape.elements (set s.words z ((get_or s.words z 0 + e.amount) % 2 ^ 64)) (set s.views id (with_entry v e))) (sym is)
+        (add_keeps shape.weight shape.reports shape.elements s.words s.views id v k at e some_weight may),
+    (
+      subst (λ (z : Entry). Added z i e.amount v (with_entry v e)) (sym same) record { place = is ∙ ap (λ (r : ℕ). cell_word r e.cell) (sym reports); half = refl; after = refl },
+      refl,
+    ),
+  )
+
+  pub note_allowed : e.amount ≡ 0 → Allows (holds shape) slots id me 0 (λ n. n) (λ found w. Noted d 0 me.0 w.0 × (w.1 ≡ me.1))
+  note_allowed nothing s k len at fits = let v = me.0 in (
+    with_entry v e,
+    keeps,
+    tt,
+    unwritten shape.weight shape.reports shape.elements s.words (set s.views id (with_entry v e)) 0 (note_keeps shape.weight shape.reports shape.elements s.words s.views id v k at e some_weight may nothing),
+    (subst (λ (z : Entry). Noted z 0 v (with_entry v e)) (sym same) record { place = refl; nothing = nothing; after = refl }, refl),
+  )
 
 pub split_allowed : (shape : Shape) (id : ℕ) (v : View) → 2 ≤ v.weight → Splits (holds shape) id v (kept_half v) (given_half v)
 split_allowed shape id v two s k at = split_keeps shape.weight shape.reports shape.elements s.words s.views id v k at (v.weight - v.weight / 2) (v.weight / 2) (omega arith) (omega arith) (omega arith)
 
-pub join_allowed : (shape : Shape) (id other : ℕ) (v w : View) → 1 ≤ v.weight → Joins (holds shape) id v other w (joined v w) spent
+pub join_allowed : (shape : Shape) (id other : ℕ) (v w : View) → 1 ≤ v.weight → Joins (holds shape) id v other w (joined_view v w) spent_view
 join_allowed shape id other v w some_weight s k at apart that =
-    join_keeps shape.weight shape.reports shape.elements s.words s.views id v k at other w apart (sym (set_else s.views id other (joined v w) apart) ∙ that) some_weight
+    join_keeps shape.weight shape.reports shape.elements s.words s.views id v k at other w apart (sym (set_else s.views id other (joined_view v w) apart) ∙ that) some_weight

@@ -1,12 +1,12 @@
-pub mod Sums
-pub mod Bits
-pub mod Lists
-pub mod Moves
-pub mod Learning
-pub mod Allowed
-pub mod Bound
-pub mod Adding
-pub mod Rows
-pub mod Totals
-pub mod StateLaws
-pub mod StepLaws
+mod Sums
+mod Bits
+mod Lists
+mod Moves
+mod Learning
+mod Allowed
+mod Bound
+mod Adding
+mod Rows
+mod Totals
+mod StateLaws
+mod StepLaws

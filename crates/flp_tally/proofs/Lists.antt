@@ -6,7 +6,7 @@ use native.Mathlib.Decide.{ℕ_discrete}
 use Rattle.std.proofs.lemmas.List.Elements.{All-append}
 use Rattle.flp_tally.specs.declared.view.Entry.{Entry}
 use Rattle.flp_tally.specs.declared.view.View.{View}
-use Rattle.flp_tally.specs.Views.{times, entries_of, amount_in, EntriesFit, Owns, with_claimed, with_entry, joined}
+use Rattle.flp_tally.specs.Views.{times, entries_of, amount_in, EntriesFit, Owns, with_claimed, with_entry, joined_view}
 
 abbrev pub one_if : Bool → ℕ
 one_if b = cond b 1 0
@@ -65,5 +65,5 @@ owns-with_entry v e claimed free o x c = let own = o x c in let s = entries-appe
     (λ ne. let p = entries_other x c e [] (λ h. ne) in omega arith))
     (λ ne. let p = entries_other x c e [] (λ h. absurd (ne h)) in omega arith)
 
-pub owns-joined : (v w : View) → Owns v → Owns w → Owns (joined v w)
-owns-joined v w o p x c = let a = o x c in let b = p x c in let s = times-append x v.claimed w.claimed in let t = entries-append x c v.added w.added in omega arith
+pub owns-joined_view : (v w : View) → Owns v → Owns w → Owns (joined_view v w)
+owns-joined_view v w o p x c = let a = o x c in let b = p x c in let s = times-append x v.claimed w.claimed in let t = entries-append x c v.added w.added in omega arith

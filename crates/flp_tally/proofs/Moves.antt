@@ -7,7 +7,7 @@ use native.Mathlib.Decide.{ℕ_discrete}
 use lib.ListN.{get_elem?}
 use Rattle.atomic_table.proofs.Lists.{at_set, at_snoc, set_else}
 use Rattle.flp_tally.specs.declared.view.View.{View}
-use Rattle.flp_tally.specs.Views.{times, amount_in, with_claimed, with_seen, with_missed, with_weight, fresh, joined, spent}
+use Rattle.flp_tally.specs.Views.{times, amount_in, with_claimed, with_seen, with_missed, with_weight, fresh, joined_view, spent_view}
 use Rattle.flp_tally.specs.Rule.{blocks, claim_word, claim_bit, cell_word, Fits, Tallies}
 use Rattle.flp_tally.proofs.Sums.{sum_set}
 use Rattle.flp_tally.proofs.Bits.{marked, bit-lt, marked_same, marked_other, marked_word}
@@ -62,9 +62,9 @@ with_seen_fits n r m ws v x f some_weight below is = record {
   entries = f.entries;
 }
 
--- the same words, and a view with the same claimed and added
-stays : (n r m : ℕ) (ws : List ℕ) (v w : View) → w.weight ≡ v.weight → w.claimed ≡ v.claimed → w.added ≡ v.added → Fits n r m ws w → Change n r m ws ws v w
-stays n r m ws v w weight claimed added fits = record {
+-- the same words, and a view with the same claimed and the same amounts
+pub stays : (n r m : ℕ) (ws : List ℕ) (v w : View) → w.weight ≡ v.weight → w.claimed ≡ v.claimed → ((c : ℕ) → amount_in c w.added ≡ amount_in c v.added) → Fits n r m ws w → Change n r m ws ws v w
+stays n r m ws v w weight claimed amounts fits = record {
   heads = (refl, refl, refl);
   long = refl;
   weight = weight;
@@ -73,20 +73,20 @@ stays n r m ws v w weight claimed added fits = record {
   claims = λ x h. ap (λ (l : List ℕ). times x l + claim_bit ws x) claimed;
   beyond = λ x h. ap (times x) claimed;
   clear = λ x h g. refl;
-  cells = λ c h. let t = ap (amount_in c) added in omega arith;
+  cells = λ c h. let t = amounts c in omega arith;
 }
 
 module _ (n r m : ℕ) (ws : List ℕ) (vs : List View) (id : ℕ) (v : View) (k : Tallies n r m ws vs) (at : get_elem? vs id ≡ some v) where
   -- a load of word 0 that changes nothing
   pub load_keeps : Tallies n r m ws (set vs id v)
-  load_keeps = moved n r m ws ws vs id v v k at (stays n r m ws v v refl refl refl (k.each id v at))
+  load_keeps = moved n r m ws ws vs id v v k at (stays n r m ws v v refl refl (λ c. refl) (k.each id v at))
 
   module _ (x : ℕ) (some_weight : 1 ≤ v.weight) (below : x < r) where
     seen_keeps : claim_bit ws x ≡ 1 → Tallies n r m ws (set vs id (with_seen v x))
-    seen_keeps is = moved n r m ws ws vs id v (with_seen v x) k at (stays n r m ws v (with_seen v x) refl refl refl (with_seen_fits n r m ws v x (k.each id v at) some_weight below is))
+    seen_keeps is = moved n r m ws ws vs id v (with_seen v x) k at (stays n r m ws v (with_seen v x) refl refl (λ c. refl) (with_seen_fits n r m ws v x (k.each id v at) some_weight below is))
 
     missed_keeps : Tallies n r m ws (set vs id (with_missed v x))
-    missed_keeps = let f = k.each id v at in moved n r m ws ws vs id v (with_missed v x) k at (stays n r m ws v (with_missed v x) refl refl refl
+    missed_keeps = let f = k.each id v at in moved n r m ws ws vs id v (with_missed v x) k at (stays n r m ws v (with_missed v x) refl refl (λ c. refl)
         record { numbers = f.numbers; idle = λ none. absurd (omega arith); seen = f.seen; owns = f.owns; entries = f.entries })
 
     -- the load of a claim word
@@ -142,13 +142,13 @@ module _ (n r m : ℕ) (ws : List ℕ) (vs : List View) (id : ℕ) (v : View) (k
   }
 
   -- two views made one
-  pub join_keeps : (other : ℕ) (w : View) → other ≢ id → get_elem? vs other ≡ some w → 1 ≤ v.weight → Tallies n r m ws (set (set vs id (joined v w)) other spent)
-  join_keeps other w apart that some_weight = let f = k.each id v at in let g = k.each other w that in let both : View = joined v w in
+  pub join_keeps : (other : ℕ) (w : View) → other ≢ id → get_elem? vs other ≡ some w → 1 ≤ v.weight → Tallies n r m ws (set (set vs id (joined_view v w)) other spent_view)
+  join_keeps other w apart that some_weight = let f = k.each id v at in let g = k.each other w that in let both : View = joined_view v w in
       let that' : get_elem? (set vs id both) other ≡ some w = set_else vs id other both apart ∙ that in record {
         heads = k.heads;
         bounds = k.bounds;
         long = k.long;
-        weights = let s = sum_set (λ (u : View). u.weight) vs id v both at in let p = sum_set (λ (u : View). u.weight) (set vs id both) other w spent that' in let is = k.weights in omega arith;
+        weights = let s = sum_set (λ (u : View). u.weight) vs id v both at in let p = sum_set (λ (u : View). u.weight) (set vs id both) other w spent_view that' in let is = k.weights in omega arith;
         each = λ j u e. ⊎_elim
             (λ t. subst (λ (z : View). Fits n r m ws z) t.1 record { numbers = λ h. absurd (omega arith); idle = λ none. (refl, refl, refl, refl); seen = λ x h. absurd (omega arith); owns = λ x c. omega arith; entries = λ j d h. absurd (omega arith) })
             (λ t. ⊎_elim (λ q. subst (λ (z : View). Fits n r m ws z) q.1 record {
@@ -159,9 +159,9 @@ module _ (n r m : ℕ) (ws : List ℕ) (vs : List View) (id : ℕ) (v : View) (k
               entries = fit-append m v.added w.added f.entries g.entries;
             })
             (λ q. k.each j u q.1) (at_set vs id j both u t.1))
-            (at_set (set vs id both) other j spent u e);
-        claims = λ x h. let s = sum_set (λ (u : View). times x u.claimed) vs id v both at in let p = sum_set (λ (u : View). times x u.claimed) (set vs id both) other w spent that' in let t = times-append x v.claimed w.claimed in let is = k.claims x h in omega arith;
-        beyond = λ x h. let s = sum_set (λ (u : View). times x u.claimed) vs id v both at in let p = sum_set (λ (u : View). times x u.claimed) (set vs id both) other w spent that' in let t = times-append x v.claimed w.claimed in let is = k.beyond x h in omega arith;
+            (at_set (set vs id both) other j spent_view u e);
+        claims = λ x h. let s = sum_set (λ (u : View). times x u.claimed) vs id v both at in let p = sum_set (λ (u : View). times x u.claimed) (set vs id both) other w spent_view that' in let t = times-append x v.claimed w.claimed in let is = k.claims x h in omega arith;
+        beyond = λ x h. let s = sum_set (λ (u : View). times x u.claimed) vs id v both at in let p = sum_set (λ (u : View). times x u.claimed) (set vs id both) other w spent_view that' in let t = times-append x v.claimed w.claimed in let is = k.beyond x h in omega arith;
         clear = k.clear;
-        cells = λ c h. let s = sum_set (λ (u : View). amount_in c u.added) vs id v both at in let p = sum_set (λ (u : View). amount_in c u.added) (set vs id both) other w spent that' in let t = amount-append c v.added w.added in let is = k.cells c h in omega arith;
+        cells = λ c h. let s = sum_set (λ (u : View). amount_in c u.added) vs id v both at in let p = sum_set (λ (u : View). amount_in c u.added) (set vs id both) other w spent_view that' in let t = amount-append c v.added w.added in let is = k.cells c h in omega arith;
       }

@@ -10,11 +10,11 @@ use Rattle.atomic_table.specs.Table.{State}
 use Rattle.flp_tally.specs.declared.view.View.{View}
 use Rattle.flp_tally.specs.Views.{times}
 use Rattle.flp_tally.specs.Rule.{claim_word, Tallies}
-use Rattle.flp_tally.specs.Kinds.{Keeps, SplitStep, JoinStep, ClaimStep, AddStep, PeekStep, LearnStep, NeverWraps, ClaimedOnce, BitIsClaimed, SeenIsClaimedBySome, AddedOnce}
+use Rattle.flp_tally.specs.Kinds.{Keeps, SplitStep, JoinStep, ClaimStep, AddStep, NoteStep, PeekStep, LearnStep, NeverWraps, ClaimedOnce, BitIsClaimed, SeenIsClaimedBySome, AddedOnce}
 use Rattle.flp_tally.proofs.Sums.{at_le}
 use Rattle.flp_tally.proofs.Bits.{marked, bit-lt}
 use Rattle.flp_tally.proofs.Moves.{split_keeps, join_keeps, claim_keeps, peek_keeps}
-use Rattle.flp_tally.proofs.Adding.{add_keeps, never_wraps}
+use Rattle.flp_tally.proofs.Adding.{add_keeps, note_keeps, never_wraps}
 use Rattle.flp_tally.proofs.Learning.{once}
 
 -- the rule at the words and views that a step says it leaves
@@ -32,7 +32,10 @@ claim_law n r m s t k d = let i = claim_word d.number in let bit : 2 ^ (d.number
     arrives n r m t (marked s.words d.number) _ (d.words ∙ ap (λ (z : ℕ). set s.words i (bit_or (get_or s.words i 0) z)) bit) d.views (claim_keeps n r m s.words s.views d.id d.view k d.at d.number d.weight d.below d.after d.clear d.marked)
 
 pub add_law : Keeps AddStep
-add_law n r m s t k d = arrives n r m t _ _ d.words d.views (add_keeps n r m s.words s.views d.id d.view k d.at d.entry d.weight d.cell d.amount d.claimed d.free)
+add_law n r m s t k d = arrives n r m t _ _ d.words d.views (add_keeps n r m s.words s.views d.id d.view k d.at d.entry d.weight d.may_add)
+
+pub note_law : Keeps NoteStep
+note_law n r m s t k d = arrives n r m t _ _ d.words d.views (note_keeps n r m s.words s.views d.id d.view k d.at d.entry d.weight d.may_add d.nothing)
 
 pub peek_law : Keeps PeekStep
 peek_law n r m s t k d = arrives n r m t _ _ d.words d.views (peek_keeps n r m s.words s.views d.id d.view k d.at d.number d.weight d.below d.after d.clear d.marked)
@@ -41,7 +44,7 @@ pub learn_law : Keeps LearnStep
 learn_law n r m s t k d = arrives n r m t s.words s.views d.words d.views k
 
 pub wraps_law : NeverWraps
-wraps_law n r m s t k d = never_wraps n r m s.words s.views d.id d.view k d.at d.entry d.weight d.cell d.amount d.claimed d.free
+wraps_law n r m s t k d = never_wraps n r m s.words s.views d.id d.view k d.at d.entry d.weight d.may_add
 
 pub once_law : ClaimedOnce
 once_law n r m ws vs x k = dite (dec_le r x)

@@ -1,13 +1,13 @@
--- The kinds of step that the calls take, each as a relation between the state before and the state after. Five change words
--- or views, and a sixth, by which a joined seat learns what the rule says of it, changes nothing.
+-- The kinds of step that the calls take, each as a relation between the state before and the state after. Six change words
+-- or views, and a seventh, by which a joined seat learns what the rule says of it, changes nothing.
 -- Every step is one load, one fetch_or or one fetch_add on one word, by a seat of weight at least 1. Below them: what the rule says.
-use Rattle.std.specs.Prelude.{◌≡◌, ◌≢◌, ℕ, ◌+◌, ◌*◌, ◌%◌, ◌^◌, ◌<◌, ◌≤◌, ◌↔◌, List, [], ◌∷◌, ◌++◌, slice_index, slice_set, bit_or}
+use Rattle.std.specs.Prelude.{◌≡◌, ◌≢◌, ℕ, ◌+◌, ◌%◌, ◌^◌, ◌<◌, ◌≤◌, ◌↔◌, List, [], ◌∷◌, ◌++◌, slice_index, slice_set, bit_or}
 use mathlib.Core.Option.{some}
 use lib.ListN.{get_elem?}
 use Rattle.atomic_table.specs.Table.{State}
 use Rattle.flp_tally.specs.declared.view.View.{View}
 use Rattle.flp_tally.specs.declared.view.Entry.{Entry}
-use Rattle.flp_tally.specs.Views.{times, entries_of, with_claimed, with_seen, with_missed, with_entry, with_weight, fresh, joined, spent}
+use Rattle.flp_tally.specs.Views.{times, entries_of, MayAdd, with_claimed, with_seen, with_missed, with_entry, with_weight, fresh, joined_view, spent_view}
 use Rattle.flp_tally.specs.Rule.{claim_word, claim_bit, cell_word, claims_of, Tallies}
 
 -- a load of word 0: the weight is divided into two parts, and the new view has empty lists
@@ -32,7 +32,7 @@ pub record JoinStep (n r m : ℕ) (s t : State ℕ View) : Type 0 where
   pub apart : other ≢ id
   pub weight : (1 ≤ view.weight) × (1 ≤ away.weight)
   pub words : t.words ≡ s.words
-  pub views : t.views ≡ slice_set (slice_set s.views id (joined view away)) other spent
+  pub views : t.views ≡ slice_set (slice_set s.views id (joined_view view away)) other spent_view
 
 -- a fetch_or of the bit of one number: where the bit was clear the number joins claimed, and where it was set it joins seen
 pub record ClaimStep (n r m : ℕ) (s t : State ℕ View) : Type 0 where
@@ -55,11 +55,20 @@ pub record AddStep (n r m : ℕ) (s t : State ℕ View) : Type 0 where
   pub entry : Entry
   pub at : get_elem? s.views id ≡ some view
   pub weight : 1 ≤ view.weight
-  pub cell : entry.cell < 2 * m
-  pub amount : entry.amount < 2 ^ 32
-  pub claimed : 1 ≤ times entry.number view.claimed
-  pub free : entries_of entry.number entry.cell view.added ≡ 0
+  pub may_add : MayAdd m view entry
   pub words : t.words ≡ slice_set s.words (cell_word r entry.cell) ((slice_index s.words (cell_word r entry.cell) + entry.amount) % 2 ^ 64)
+  pub views : t.views ≡ slice_set s.views id (with_entry view entry)
+
+-- a load of word 0: the entry joins added likewise, and has the amount 0, so that no word changes
+pub record NoteStep (n r m : ℕ) (s t : State ℕ View) : Type 0 where
+  pub id : ℕ
+  pub view : View
+  pub entry : Entry
+  pub at : get_elem? s.views id ≡ some view
+  pub weight : 1 ≤ view.weight
+  pub may_add : MayAdd m view entry
+  pub nothing : entry.amount ≡ 0
+  pub words : t.words ≡ s.words
   pub views : t.views ≡ slice_set s.views id (with_entry view entry)
 
 -- a load of a claim word: where the bit was set the number joins seen, and where it was clear it joins missed

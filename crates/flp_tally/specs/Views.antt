@@ -27,6 +27,13 @@ Owns v = (x c : ℕ) → entries_of x c v.added ≤ times x v.claimed
 abbrev pub NotAdded : ℕ → View → Type 0
 NotAdded x v = (c : ℕ) → entries_of x c v.added ≡ 0
 
+-- What an entry needs to join added: a number that the view has claimed and not yet added to the entry's cell, and an amount of 32 bits.
+pub record MayAdd (m : ℕ) (v : View) (e : Entry) : Type 0 where
+  pub cell : e.cell < 2 * m
+  pub amount : e.amount < 2 ^ 32
+  pub claimed : 1 ≤ times e.number v.claimed
+  pub free : entries_of e.number e.cell v.added ≡ 0
+
 -- Each entry is for the low or the high half of one of the m elements, and has 32 bits.
 abbrev pub EntriesFit : ℕ → List Entry → Type 0
 EntriesFit m es = All (λ e. (e.cell < 2 * m) × (e.amount < 2 ^ 32)) es
@@ -67,9 +74,9 @@ fresh v w = record { weight = w; full = v.full; reports = v.reports; elements = 
 abbrev pub given_half : View → View
 given_half v = fresh v (v.weight / 2)
 
-abbrev pub joined : View → View → View
-joined v w = record { weight = v.weight + w.weight; full = v.full; reports = v.reports; elements = v.elements; claimed = v.claimed ++ w.claimed; seen = v.seen ++ w.seen; missed = v.missed ++ w.missed; added = v.added ++ w.added }
+abbrev pub joined_view : View → View → View
+joined_view v w = record { weight = v.weight + w.weight; full = v.full; reports = v.reports; elements = v.elements; claimed = v.claimed ++ w.claimed; seen = v.seen ++ w.seen; missed = v.missed ++ w.missed; added = v.added ++ w.added }
 
 -- what is left of a view that was joined away
-abbrev pub spent : View
-spent = record { weight = 0; full = 0; reports = 0; elements = 0; claimed = []; seen = []; missed = []; added = [] }
+abbrev pub spent_view : View
+spent_view = record { weight = 0; full = 0; reports = 0; elements = 0; claimed = []; seen = []; missed = []; added = [] }

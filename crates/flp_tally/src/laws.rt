@@ -1,7 +1,7 @@
 //! What holds in every schedule: each kind of step keeps the rule from any state that meets it, and what the rule says.
 //! Each function's contract is the law; none does anything when it runs.
-ghost use Rattle.flp_tally.specs.Kinds.{Keeps, SplitStep, JoinStep, ClaimStep, AddStep, PeekStep, LearnStep, NeverWraps, ClaimedOnce, BitIsClaimed, SeenIsClaimedBySome, AddedOnce};
-ghost use Rattle.flp_tally.specs.StepKinds.{ClaimsAreSteps, PeeksAreSteps, AddsAreSteps, LearnsAreSteps, SplitsAreSteps, JoinsAreSteps};
+ghost use Rattle.flp_tally.specs.Kinds.{Keeps, SplitStep, JoinStep, ClaimStep, AddStep, NoteStep, PeekStep, LearnStep, NeverWraps, ClaimedOnce, BitIsClaimed, SeenIsClaimedBySome, AddedOnce};
+ghost use Rattle.flp_tally.specs.StepKinds.{ClaimsAreSteps, PeeksAreSteps, AddsAreSteps, NotesAreSteps, LearnsAreSteps, SplitsAreSteps, JoinsAreSteps};
 
 /// Each step that a call of a tally makes is of one of the kinds, by what it tells its seat.
 pub fn steps_are_kinds()
@@ -9,6 +9,7 @@ pub fn steps_are_kinds()
     ensures joins { JoinsAreSteps }
     ensures claims { ClaimsAreSteps }
     ensures adds { AddsAreSteps }
+    ensures notes { NotesAreSteps }
     ensures peeks { PeeksAreSteps }
     ensures learns { LearnsAreSteps }
 {}
@@ -31,6 +32,11 @@ pub fn claim_keeps_the_rule()
 /// An addition to a cell keeps the rule.
 pub fn add_keeps_the_rule()
     ensures { Keeps AddStep }
+{}
+
+/// An entry with the amount 0 that joins by a load keeps the rule.
+pub fn note_keeps_the_rule()
+    ensures { Keeps NoteStep }
 {}
 
 /// A look at a claim bit keeps the rule.

@@ -6,16 +6,11 @@
 //! claim and every row that was added.
 #![tactic(auto)]
 
-mod laws;
+pub mod laws;
 mod steps;
 mod tally;
 mod view;
 
-pub use laws::{
-    add_keeps_the_rule, added_once, bit_is_claimed, cells_never_wrap, claim_keeps_the_rule,
-    claimed_once, join_keeps_the_rule, learn_keeps_the_rule, peek_keeps_the_rule, seen_is_claimed,
-    split_keeps_the_rule, steps_are_kinds,
-};
 pub use std::alloc::AllocError as Memory;
 pub use tally::{Claim, Seat, Tally};
 pub use view::{Entry, View};

@@ -1,9 +1,9 @@
 //! The single steps on a tally's words. Each function makes one.
 ghost use Rattle.std.specs.Prelude.{◌≡◌, ◌↔◌, ◌%◌, IsTrue, ℕ, ◌+◌, ◌*◌, ◌^◌, ◌<◌, ◌≤◌};
 ghost use Rattle.std.specs.Int.{bit_at};
-ghost use Rattle.flp_tally.specs.Views.{times, entries_of, kept_half, given_half, joined, spent, with_entry};
-ghost use Rattle.flp_tally.specs.Steps.{Claimed, Peeked, Learned, Added};
-ghost use Rattle.flp_tally.specs.Rule.{blocks, claim_word, cell_word};
+ghost use Rattle.flp_tally.specs.Views.{MayAdd, kept_half, given_half, joined_view, spent_view, with_entry};
+ghost use Rattle.flp_tally.specs.Steps.{MayAct, Claimed, Peeked, Learned, Added, Noted};
+ghost use Rattle.flp_tally.specs.Rule.{claim_word, cell_word};
 
 use crate::view::{Entry, Shape, Tallied, View};
 use atomic_table::{Join, Play, Shared, Split};
@@ -48,9 +48,9 @@ impl Split<View> for Halves {
 pub(crate) struct Together;
 
 impl Join<View> for Together {
-    ghost both = { joined };
+    ghost both = { joined_view };
 
-    ghost spent = { spent };
+    ghost spent = { spent_view };
 }
 
 pub(crate) struct Learning;
@@ -83,13 +83,19 @@ impl<E: Halved> Play<u8, View> for Adding<E> {
     ghost then = { λ s v found w. Added E.entry s.word s.first v.0 w.0 × (w.1 ≡ v.1) };
 }
 
+pub(crate) struct Noting<E> {
+    entry: PhantomData<E>,
+}
+
+impl<E: Halved> Play<u8, View> for Noting<E> {
+    ghost then = { λ s v found w. Noted E.entry s.word v.0 w.0 × (w.1 ≡ v.1) };
+}
+
 /// Sets the claim bit of a number, and gives the word that was found.
 pub(crate) fn take<N: Numbered>(words: &Words, place: &mut Place, number: u32) -> u64
     requires number { number ≡ N.number }
     requires below { number < words.now.key.reports }
-    requires long { words.now.table_id.words ≡ 3 + blocks words.now.key.reports + 2 * words.now.key.elements }
-    requires seat { place.old.table_id ≡ words.now.table_id }
-    requires weight { 1 ≤ place.old.me.0.weight }
+    requires seat { MayAct words.now.table_id words.now.key place.old.table_id place.old.me.0 }
     ensures seat { place.new.table_id ≡ place.old.table_id }
     ensures claimed { Claimed number (claim_word number) place.old.me.0 result place.new.me.0 }
     ensures slots { place.new.me.1 ≡ place.old.me.1 }
@@ -101,9 +107,7 @@ pub(crate) fn take<N: Numbered>(words: &Words, place: &mut Place, number: u32) -
 pub(crate) fn look<N: Numbered>(words: &Words, place: &mut Place, number: u32) -> u64
     requires number { number ≡ N.number }
     requires below { number < words.now.key.reports }
-    requires long { words.now.table_id.words ≡ 3 + blocks words.now.key.reports + 2 * words.now.key.elements }
-    requires seat { place.old.table_id ≡ words.now.table_id }
-    requires weight { 1 ≤ place.old.me.0.weight }
+    requires seat { MayAct words.now.table_id words.now.key place.old.table_id place.old.me.0 }
     ensures seat { place.new.table_id ≡ place.old.table_id }
     ensures peeked { Peeked number (claim_word number) place.old.me.0 result place.new.me.0 }
     ensures slots { place.new.me.1 ≡ place.old.me.1 }
@@ -118,22 +122,30 @@ pub(crate) fn is_marked(word: u64, number: u32) -> bool
     word >> (number % 64) & 1 == 1
 }
 
-/// Adds an entry to its cell, under a number that the seat has claimed and not yet added to the cell. The words of the
-/// cells begin at `cells`.
+/// Adds an entry to its cell. The words of the cells begin at `cells`.
 pub(crate) fn put<E: Halved>(words: &Words, place: &mut Place, cells: usize, entry: Entry)
     requires entry { E.entry ≡ entry }
-    requires cell { entry.cell < 2 * words.now.key.elements }
     requires cells { cells ≡ cell_word words.now.key.reports 0 }
     requires small { cells < 2 ^ 32 }
-    requires long { words.now.table_id.words ≡ 3 + blocks words.now.key.reports + 2 * words.now.key.elements }
-    requires seat { place.old.table_id ≡ words.now.table_id }
-    requires weight { 1 ≤ place.old.me.0.weight }
+    requires seat { MayAct words.now.table_id words.now.key place.old.table_id place.old.me.0 }
     requires reports { place.old.me.0.reports ≡ words.now.key.reports }
-    requires claimed { 1 ≤ times entry.number place.old.me.0.claimed }
-    requires free { entries_of entry.number entry.cell place.old.me.0.added ≡ 0 }
+    requires may_add { MayAdd words.now.key.elements place.old.me.0 entry }
     ensures seat { place.new.table_id ≡ place.old.table_id }
     ensures added { place.new.me.0 ≡ with_entry place.old.me.0 entry }
     ensures slots { place.new.me.1 ≡ place.old.me.1 }
 {
     words.fetch_add::<Adding<E>>(place, cells + entry.cell as usize, entry.amount as u64);
+}
+
+/// Lets an entry with the amount 0 join what the seat has added. No word changes, so a load of the first word serves.
+pub(crate) fn note<E: Halved>(words: &Words, place: &mut Place, entry: Entry)
+    requires entry { E.entry ≡ entry }
+    requires nothing { entry.amount ≡ 0 }
+    requires seat { MayAct words.now.table_id words.now.key place.old.table_id place.old.me.0 }
+    requires may_add { MayAdd words.now.key.elements place.old.me.0 entry }
+    ensures seat { place.new.table_id ≡ place.old.table_id }
+    ensures added { place.new.me.0 ≡ with_entry place.old.me.0 entry }
+    ensures slots { place.new.me.1 ≡ place.old.me.1 }
+{
+    words.load::<Noting<E>>(place, 0);
 }

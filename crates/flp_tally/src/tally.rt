@@ -1,12 +1,12 @@
 //! The tally and its seats.
 ghost use Rattle.std.specs.Prelude.{◌≡◌, ℕ, ◌+◌, ◌*◌, ◌%◌, ◌^◌, ◌<◌, ◌≤◌, IfOk, IsTrue, IsFalse, [], length};
-ghost use Rattle.flp_tally.specs.Views.{times, NoneTwice, Owns, SeenIsClaimed, first_view, with_claimed, with_seen, with_missed, with_entry, kept_half, given_half, joined, entries_of, NotAdded};
+ghost use Rattle.flp_tally.specs.Views.{times, NoneTwice, Owns, SeenIsClaimed, first_view, with_claimed, with_seen, with_missed, with_entry, kept_half, given_half, joined_view, NotAdded, MayAdd};
 ghost use Rattle.flp_tally.specs.Rows.{with_row, AreTotals, AreSums};
 ghost use Rattle.flp_tally.specs.Rule.{cell_word};
 ghost use Rattle.flp_field.specs.Word.{modulus};
 ghost use Rattle.flp_tally.specs.Held.{IsSeatOf};
 
-use crate::steps::{Halves, Learning, Place, Together, is_marked, look, put, take};
+use crate::steps::{Halves, Learning, Place, Together, is_marked, look, note, put, take};
 use crate::view::{Entry, Shape, Tallied, View};
 use atomic_table::Table;
 use flp_field::{Fe, MODULUS};
@@ -120,7 +120,7 @@ impl Tally {
         requires first { IsSeatOf self.now first }
         requires second { IsSeatOf self.now second }
         ensures seat { IsSeatOf self.now result }
-        ensures view { result.view ≡ joined first.view second.view }
+        ensures view { result.view ≡ joined_view first.view second.view }
         ensures once { NoneTwice result.view.claimed }
         ensures all { result.view.weight ≡ result.view.full → SeenIsClaimed result.view }
     {
@@ -182,10 +182,12 @@ impl Tally {
         ensures seat { IsSeatOf self.now seat.new }
         ensures added { seat.new.view ≡ with_row seat.old.view number row.now }
     {
+        let cells = self.cells();
         for element in 0..self.shape.elements {
             let word = row[element as usize].value();
             self.add_half(
                 seat,
+                cells,
                 Entry {
                     number,
                     cell: 2 * element,
@@ -194,6 +196,7 @@ impl Tally {
             );
             self.add_half(
                 seat,
+                cells,
                 Entry {
                     number,
                     cell: 2 * element + 1,
@@ -233,16 +236,21 @@ impl Tally {
         3 + (self.shape.reports as usize).div_ceil(64)
     }
 
-    /// Adds an entry to its cell.
-    fn add_half(&self, seat: &mut Seat, entry: Entry)
+    /// Adds an entry to its cell. The words of the cells begin at `cells`.
+    ///
+    /// A locked addition takes the word from all other threads. So an entry that adds nothing to it is noted without one.
+    fn add_half(&self, seat: &mut Seat, cells: usize, entry: Entry)
         requires seat { IsSeatOf self.now seat.old }
-        requires cell { entry.cell < 2 * self.now.elements }
-        requires claimed { 1 ≤ times entry.number seat.old.view.claimed }
-        requires free { entries_of entry.number entry.cell seat.old.view.added ≡ 0 }
+        requires cells { (cells ≡ cell_word self.now.reports 0) × (cells < 2 ^ 32) }
+        requires may_add { MayAdd self.now.elements seat.old.view entry }
         ensures seat { IsSeatOf self.now seat.new }
         ensures added { seat.new.view ≡ with_entry seat.old.view entry }
     {
-        put::<Brand>(&self.table.shared, &mut seat.place, self.cells(), entry);
+        if entry.amount == 0 {
+            note::<Brand>(&self.table.shared, &mut seat.place, entry);
+            return;
+        }
+        put::<Brand>(&self.table.shared, &mut seat.place, cells, entry);
     }
 }
 
@@ -267,6 +275,3 @@ impl Seat {
         self.weight
     }
 }
-
-#[cfg(test)]
-mod tests;

@@ -1,21 +1,18 @@
 -- Honest records: where no query point lies in a domain each proof holds, and so the record is accepted.
-use Rattle.std.proofs.Common.{◌≡◌, ℕ, zero, suc, ◌+◌, ◌<◌, ◌≤◌, List, ◌∷◌, map, take, Bool, true, false, Option, Some, None, refl, sym, ap, subst, ◌∙◌, arith, inl, inr, ⊎_elim}
-use Rattle.std.specs.Prelude.{if◌then◌else◌, ◌⊎◌}
+use Rattle.std.proofs.Common.{◌≡◌, ℕ, zero, suc, ◌+◌, ◌<◌, ◌≤◌, List, ◌∷◌, map, Bool, true, Option, Some, None, refl, sym, ap, subst, ◌∙◌, arith, inl, inr, ⊎_elim}
+use Rattle.std.specs.Prelude.{◌⊎◌}
 use Rattle.std.specs.List.{list_all, range_with_len}
-use Rattle.std.proofs.lemmas.Bool.{cases_Bool}
 use Rattle.flp_syntax.specs.Tree.{Program}
 use Rattle.flp_meaning.specs.Verifier.{accepts}
 use Rattle.flp_meaning.specs.ProofLaws.{IsBounded, HonestProofIsAccepted}
 use Rattle.flp_report.specs.declared.shape.Shape.{Shape}
-use Rattle.flp_report.specs.Record.{nonce_in, words_in}
+use Rattle.flp_report.specs.Record.{words_in}
 use Rattle.flp_report.specs.Words.{bad_word_in}
 use Rattle.flp_policy.specs.declared.verdict.Verdict.{Verdict}
-use Rattle.flp_policy.specs.declared.verdict.Verdict.TheVariants.{Replayed}
 use Rattle.flp_worker.specs.Parts.{joint_words, query_words, unshared_encoding}
 use Rattle.flp_worker.specs.Verdict.{verdict_of, verdict_by, verdict_if, first_named, first_inside, gadget_inside, proof_holds, all_hold}
-use Rattle.flp_verdict.specs.Verdicts.{known_behind, is_among}
 use Rattle.flp_verdict.specs.Laws.{report_at, IsHonestProof, IsHonest, IsHonestVerdict, AcceptsHonest}
-use Rattle.flp_verdict.proofs.PlaceLemmas.{at-place}
+use Rattle.flp_verdict.proofs.PlaceLemmas.{judges_once}
 
 -- an honest proof holds where no query point lies in a domain
 holds-honest : (program : Program) (shape : Shape) (report : List ℕ) (proof : ℕ) → HonestProofIsAccepted → IsBounded program → IsHonestProof program shape report proof
@@ -117,14 +114,6 @@ honest-new program shape report law bounded good honest =
 
 pub accepts_honest : (program : Program) (shape : Shape) (claims reports : List (List ℕ)) → HonestProofIsAccepted → IsBounded program → AcceptsHonest program shape claims reports
 accepts_honest program shape claims reports law bounded i below not_replayed good honest =
-    let report = report_at reports i in
-    let known = is_among (known_behind claims (take i reports)) (nonce_in report) in
-    let place = at-place program shape claims reports i below in
-    ⊎_elim
-    (λ (yes : known ≡ true).
-    absurd (not_replayed (place ∙ ap (λ (b : Bool). if b then Replayed else verdict_of program shape report) yes)))
-    (λ (new : known ≡ false).
-    let P : Verdict → Type 0 = λ v. IsHonestVerdict program shape report v in
-    subst P (sym (place ∙ ap (λ (b : Bool). if b then Replayed else verdict_of program shape report) new))
-    (honest-new program shape report law bounded good honest))
-    (cases_Bool known)
+    let P : Verdict → Type 0 = λ v. IsHonestVerdict program shape (report_at reports i) v in
+    subst P (sym ((judges_once program shape claims reports).alone i below not_replayed))
+    (honest-new program shape (report_at reports i) law bounded good honest)

@@ -8,7 +8,7 @@ use Rattle.flp_syntax.specs.Tree.{Program}
 use Rattle.flp_report.specs.declared.shape.Shape.{Shape}
 use Rattle.flp_policy.specs.Verdicts.{is_accepted}
 use Rattle.flp_verdict.specs.Verdicts.{Judged, judged_after, judged_from, judged, accepted_in}
-use Rattle.flp_verdict.specs.Text.{line_of, lines_of}
+use Rattle.flp_verdict.specs.Text.{line_of, judged_lines}
 
 -- one record more is judged behind all others
 judged_from-append : (program : Program) (shape : Shape) (claims earlier reports : List (List ℕ)) (report : List ℕ)
@@ -44,5 +44,5 @@ accepted_in_more js j =
     ∙ (map-append report (filter test js) (filter test (j ∷ []))
     ∙ ap (λ (l : List (List ℕ)). accepted_in js ++ l) (accepted_one-by j (is_accepted j.verdict) refl))
 
-pub lines_of_more : (js : List Judged) (j : Judged) → lines_of (js ++ j ∷ []) ≡ lines_of js ++ line_of j
-lines_of_more js j = flat_map-append line_of js (j ∷ []) ∙ ap (λ (l : List ℕ). lines_of js ++ l) (append-nil (line_of j))
+pub lines_of_more : (js : List Judged) (j : Judged) → judged_lines (js ++ j ∷ []) ≡ judged_lines js ++ line_of j
+lines_of_more js j = flat_map-append line_of js (j ∷ []) ∙ ap (λ (l : List ℕ). judged_lines js ++ l) (append-nil (line_of j))

@@ -1,36 +1,14 @@
--- Nonces that are known: one more, and what it means that one is.
-use Rattle.std.proofs.Common.{◌≡◌, ℕ, zero, suc, ◌<◌, ◌≤◌, List, [], ◌∷◌, ◌++◌, length, map, get_or, take, Bool, true, false, ◌||◌, nat_eq, refl, sym, ap, ◌∙◌, arith, inl, inr, ⊎_elim, append_assoc}
-use Rattle.std.specs.Prelude.{◌⊎◌, Contains}
+-- Nonces that are known behind some records: where each comes from.
+use Rattle.std.proofs.Common.{◌≡◌, ℕ, zero, suc, ◌<◌, ◌≤◌, List, [], ◌∷◌, length, map, get_or, take, Bool, true, false, ◌||◌, nat_eq, refl, sym, ap, ◌∙◌, arith, inl, inr, ⊎_elim}
+use Rattle.std.specs.Prelude.{◌⊎◌}
 use Rattle.std.specs.Cmp.Lexicographic.{pointwise, bytes_decides}
-use Rattle.std.proofs.Math.Bool.{or-false, or-true}
+use Rattle.std.proofs.Math.Bool.{or-true}
 use Rattle.std.proofs.lemmas.Bool.{cases_Bool}
-use Rattle.std.proofs.lemmas.List.{map-append}
-use Rattle.std.proofs.lemmas.List.Folds.{list_any-append, list_any_at}
-use Rattle.std.proofs.lemmas.Map.Views.{Contains-from_any}
+use Rattle.std.proofs.lemmas.List.Folds.{list_any-append}
 use Rattle.flp_report.specs.Record.{nonce_in}
-use Rattle.flp_verdict.specs.Verdicts.{known_behind, is_among}
-
--- a nonce more is known
-pub is_among_more : (nonces : List (List ℕ)) (more nonce : List ℕ) → is_among (nonces ++ more ∷ []) nonce ≡ (is_among nonces nonce || pointwise nat_eq nonce more)
-is_among_more nonces more nonce =
-    list_any-append (pointwise nat_eq nonce) nonces (more ∷ [])
-    ∙ ap (λ (b : Bool). is_among nonces nonce || b) (or-false (pointwise nat_eq nonce more))
-
-pub known_behind_more : (claims earlier : List (List ℕ)) (report : List ℕ) → known_behind claims (earlier ++ report ∷ []) ≡ known_behind claims earlier ++ nonce_in report ∷ []
-known_behind_more claims earlier report =
-    ap (λ (l : List (List ℕ)). claims ++ l) (map-append nonce_in earlier (report ∷ []))
-    ∙ sym (append_assoc claims (map nonce_in earlier) (nonce_in report ∷ []))
-
--- a list has exactly the nonces that are found in it
-same_nonce : (x y : List ℕ) → pointwise nat_eq x y ≡ true → x ≡ y
-same_nonce x y is = (bytes_decides x y).0 is
-
-pub found-among : (nonces : List (List ℕ)) (nonce : List ℕ) → is_among nonces nonce ≡ true → Contains nonces nonce
-found-among nonces nonce is = Contains-from_any same_nonce nonce nonces is
-
-pub among-found : (nonces : List (List ℕ)) (nonce : List ℕ) → Contains nonces nonce → is_among nonces nonce ≡ true
-among-found nonces nonce has =
-    list_any_at (pointwise nat_eq nonce) nonces has.0 nonce has.1 ((bytes_decides nonce (get_or nonces has.0 nonce)).1 (sym has.2))
+use Rattle.flp_known.specs.Among.{is_among}
+use Rattle.flp_known.proofs.AmongLemmas.{same_nonce}
+use Rattle.flp_verdict.specs.Verdicts.{known_behind}
 
 -- one of two lists has it
 either : (a b : Bool) → (a || b) ≡ true → (a ≡ true) ⊎ (b ≡ true)

@@ -10,3 +10,9 @@ pub mod PlaceLemmas
 pub mod HonestLemmas
 -- sums of measurements
 pub mod MeasuredLemmas
+-- lists that are appended one after another
+pub mod BehindLemmas
+-- sums over a list in parts
+pub mod PartTotals
+-- a batch in parts
+pub mod ApartLemmas

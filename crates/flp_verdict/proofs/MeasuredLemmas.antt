@@ -4,9 +4,9 @@ use Rattle.std.specs.List.{All}
 use Rattle.std.proofs.lemmas.List.Elements.{All-head, All-tail, All-get_or}
 use Rattle.std.proofs.lemmas.List.FromFn.{length-map-range_with_len, get_or-map-range_with_len}
 use Rattle.flp_field.specs.Word.{modulus, IsWord, AreWords}
-use Rattle.flp_field.specs.Sums.{sum_of_lists}
+use Rattle.flp_field.specs.Sums.{sum_of_lists, total_at}
 use Rattle.flp_field.proofs.Congruence.{word_mod}
-use Rattle.flp_field.proofs.ListSums.{column, sum_of_lists_from}
+use Rattle.flp_field.proofs.ListSums.{sum_of_lists_from}
 use Rattle.flp_syntax.specs.declared.syntax.Params.{Params}
 use Rattle.flp_meaning.specs.Circuit.{outs_of}
 use Rattle.flp_meaning.specs.Gadgets.{out_count}
@@ -24,14 +24,14 @@ use Rattle.flp_verdict.specs.Laws.{whole_sum, SumsMeasurements}
 -- sums that are words are the sums modulo p
 whole_sum-words : (n : ℕ) (vectors : List (List ℕ)) → AreWords (whole_sum n vectors) → sum_of_lists n vectors ≡ whole_sum n vectors
 whole_sum-words n vectors are =
-    let size : length (whole_sum n vectors) ≡ n = length-map-range_with_len (λ (k : ℕ). column vectors k) 0 n in
+    let size : length (whole_sum n vectors) ≡ n = length-map-range_with_len (λ (k : ℕ). total_at vectors k) 0 n in
     sym (sum_of_lists_from n (whole_sum n vectors) vectors size
     (λ (k : ℕ) (below : k < n).
-    let read : get_or (whole_sum n vectors) k 0 ≡ column vectors k = get_or-map-range_with_len (λ (j : ℕ). column vectors j) 0 n k k 0 below (omega arith) in
+    let read : get_or (whole_sum n vectors) k 0 ≡ total_at vectors k = get_or-map-range_with_len (λ (j : ℕ). total_at vectors j) 0 n k k 0 below (omega arith) in
     let inside : k < length (whole_sum n vectors) = omega arith in
     let word : get_or (whole_sum n vectors) k 0 < modulus = All-get_or IsWord (whole_sum n vectors) k 0 inside are in
-    let small : column vectors k < modulus = omega arith in
-    read ∙ sym (word_mod (column vectors k) small)))
+    let small : total_at vectors k < modulus = omega arith in
+    read ∙ sym (word_mod (total_at vectors k) small)))
 
 -- the outs of encodings are the vectors
 outs-encoded : (params : Params) (inputs : List (List ℕ)) → OutsAreVectors → Fits params → All (λ input. meas_fault params input ≡ None) inputs

@@ -6,11 +6,14 @@ use Rattle.flp_syntax.specs.Tree.{Program}
 use Rattle.flp_report.specs.declared.shape.Shape.{Shape}
 use Rattle.flp_report.specs.Record.{nonce_in, words_in}
 use Rattle.flp_report.specs.Words.{bad_word_in}
+use Rattle.flp_policy.specs.declared.verdict.Verdict.{Verdict}
 use Rattle.flp_policy.specs.declared.verdict.Verdict.TheVariants.{Replayed}
 use Rattle.flp_worker.specs.Verdict.{verdict_of, verdict_by, verdict_if, first_inside, all_hold}
-use Rattle.flp_verdict.specs.Verdicts.{judged_from, known_behind, is_among, verdict_after}
+use Rattle.flp_known.specs.Among.{is_among}
+use Rattle.flp_known.proofs.AmongLemmas.{found-among, among-found}
+use Rattle.flp_verdict.specs.Verdicts.{judged_from, known_behind, verdict_after}
 use Rattle.flp_verdict.specs.Laws.{report_at, verdict_at, IsKnown, JudgesOnce}
-use Rattle.flp_verdict.proofs.KnownLemmas.{found-among, among-found, found-before, before-found, known-cases, known-old, known-earlier}
+use Rattle.flp_verdict.proofs.KnownLemmas.{found-before, before-found, known-cases, known-old, known-earlier}
 
 -- no record is a replay by itself
 verdict_if-new : (hold : Bool) → verdict_if hold ≢ Replayed
@@ -87,4 +90,13 @@ judges_once program shape claims reports = record {
             (cases_Bool known),
         λ is. place ∙ ap (λ (b : Bool). if b then Replayed else verdict_of program shape report) (at-known claims reports i below is),
       );
+  alone = λ i below other.
+      let report = report_at reports i in
+      let known = is_among (known_behind claims (take i reports)) (nonce_in report) in
+      let place = at-place program shape claims reports i below in
+      let by : Bool → Verdict = λ b. if b then Replayed else verdict_of program shape report in
+      ⊎_elim
+      (λ (yes : known ≡ true). absurd (other (place ∙ ap by yes)))
+      (λ (new : known ≡ false). place ∙ ap by new)
+      (cases_Bool known);
 }

@@ -1,14 +1,13 @@
 -- What is kept over the records that were judged. From the parts of a `Judging` up.
-use Rattle.std.specs.Prelude.{◌≡◌, ℕ, List}
-use Rattle.std.specs.Ordering.{nat_cmp}
-use Rattle.std.specs.Cmp.Lexicographic.{slice_cmp}
-use Rattle.std.specs.BTreeSet.{contains}
+use Rattle.std.specs.Prelude.{◌≡◌, ℕ, List, map}
 use Rattle.flp_syntax.specs.Tree.{Program}
 use Rattle.flp_report.specs.declared.shape.Shape.{Shape}
 use Rattle.flp_report.specs.Nonces.{nonces_in}
+use Rattle.flp_report.specs.Record.{nonce_in}
+use Rattle.flp_known.specs.Order.{with_nonces}
+use Rattle.flp_known.specs.Known.{met_in}
 use Rattle.flp_worker.specs.Worker.{verifier_kept}
 use Rattle.flp_verdict.specs.declared.judging.Judging.{Judging}
-use Rattle.flp_verdict.specs.Verdicts.{known_behind, is_among}
 
 -- the circuit of the records, their shape, and the old claims
 abbrev pub program_of : Judging → Program
@@ -35,6 +34,4 @@ pub record JudgesAlike (old new : Judging) : Type 0 where
 
 -- exactly these records were judged, in this order: it knows their nonces and the old claims, and no other
 pub record Follows (j : Judging) (reports : List (List ℕ)) : Type 0 where
-  pub known :
-      (nonce : List ℕ)
-      → contains (slice_cmp nat_cmp) j.seen nonce ≡ is_among (known_behind (old_claims_of j) reports) nonce
+  pub known : with_nonces (old_claims_of j) (met_in j.met) ≡ with_nonces (old_claims_of j) (map nonce_in reports)

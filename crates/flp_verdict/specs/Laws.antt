@@ -16,6 +16,7 @@ use Rattle.flp_report.specs.Record.{nonce_in, words_in}
 use Rattle.flp_report.specs.Words.{bad_word_in}
 use Rattle.flp_policy.specs.declared.verdict.Verdict.{Verdict}
 use Rattle.flp_policy.specs.declared.verdict.Verdict.TheVariants.{Accepted, Rejected, InDomain, Malformed, Replayed}
+use Rattle.flp_worker.specs.Verdict.{verdict_of}
 use Rattle.flp_worker.specs.Parts.{joint_words, query_words, unshared_encoding, unshared_proof}
 use Rattle.flp_verdict.specs.Verdicts.{judged, verdicts_of, accepted_in}
 use Rattle.flp_verdict.specs.Totals.{aggregate_of}
@@ -35,10 +36,13 @@ IsKnown claims reports i =
     ⊎ ((j : ℕ) × (j < i) × (nonce_in (report_at reports j) ≡ nonce_in (report_at reports i)))
 
 -- there is a verdict for each record, and a record is replayed exactly where its nonce is known: so of each nonce at
--- most one place has another verdict, the first with that nonce, and of an old claim none
+-- most one place has another verdict, the first with that nonce, and of an old claim none. That verdict is of the
+-- record's own bytes, whatever stands beside it
 pub record JudgesOnce (program : Program) (shape : Shape) (claims reports : List (List ℕ)) : Type 0 where
   pub each : length (verdicts_of program shape claims reports) ≡ length reports
   pub first : (i : ℕ) → i < length reports → (verdict_at program shape claims reports i ≡ Replayed) ↔ IsKnown claims reports i
+  pub alone : (i : ℕ) → i < length reports → verdict_at program shape claims reports i ≢ Replayed
+      → verdict_at program shape claims reports i ≡ verdict_of program shape (report_at reports i)
 
 -- ---- honest reports
 

@@ -5,7 +5,11 @@ pub mod Verdicts
 pub mod Totals
 -- the text
 pub mod Text
+-- what follows the lines where policies may withhold the aggregate
+pub mod Release
 -- the laws
 pub mod Laws
+-- the law of a batch that is verified in parts
+pub mod Apart
 -- what is kept over the records that were judged
 pub mod Judging

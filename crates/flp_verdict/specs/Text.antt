@@ -18,17 +18,21 @@ spelled (InDomain proof gadget) = codes "domain " ++ decimal proof ++ codes " " 
 spelled (Malformed word) = codes "malformed " ++ decimal word
 spelled Replayed = codes "replayed"
 
--- a line: a nonce in hexadecimal digits, and a verdict
-abbrev pub line_with : List ℕ → Verdict → List ℕ
-line_with nonce verdict = encode_lower nonce ++ codes " " ++ spelled verdict ++ codes "\n"
+-- how a line begins: a nonce in hexadecimal digits, and a space
+abbrev pub line_head : (nonce : List ℕ) → List ℕ
+line_head nonce = encode_lower nonce ++ codes " "
+
+-- a line: the nonce of a record, and what is said of it
+abbrev pub line_with : (nonce said : List ℕ) → List ℕ
+line_with nonce said = line_head nonce ++ said ++ codes "\n"
 
 -- the line of a record
 abbrev pub line_of : Judged → List ℕ
-line_of j = line_with (nonce_in j.report) j.verdict
+line_of j = line_with (nonce_in j.report) (spelled j.verdict)
 
 -- a line for each record, in their order
-abbrev pub lines_of : List Judged → List ℕ
-lines_of js = flat_map line_of js
+abbrev pub judged_lines : List Judged → List ℕ
+judged_lines js = flat_map line_of js
 
 -- numbers, with one space before each
 abbrev pub spaced : List ℕ → List ℕ
@@ -45,4 +49,4 @@ ending_of program shape js = ending_with (count_of js) (aggregate_of program sha
 -- the whole text of a batch of these records
 abbrev pub text_of : Program → Shape → (claims reports : List (List ℕ)) → List ℕ
 text_of program shape claims reports =
-    lines_of (judged program shape claims reports) ++ ending_of program shape (judged program shape claims reports)
+    judged_lines (judged program shape claims reports) ++ ending_of program shape (judged program shape claims reports)

@@ -1,22 +1,17 @@
 -- The verdict on each record of a batch, by one fold over the records in their order. From the known nonces up.
-use Rattle.std.specs.Prelude.{ℕ, List, [], ◌∷◌, ◌++◌, Bool, nat_eq, if◌then◌else◌, map, filter}
-use Rattle.std.specs.List.{list_any}
-use Rattle.std.specs.Cmp.Lexicographic.{pointwise}
+use Rattle.std.specs.Prelude.{ℕ, List, [], ◌∷◌, ◌++◌, if◌then◌else◌, map, filter}
 use Rattle.flp_syntax.specs.Tree.{Program}
 use Rattle.flp_report.specs.declared.shape.Shape.{Shape}
 use Rattle.flp_report.specs.Record.{nonce_in}
 use Rattle.flp_policy.specs.declared.verdict.Verdict.{Verdict}
 use Rattle.flp_policy.specs.declared.verdict.Verdict.TheVariants.{Replayed}
 use Rattle.flp_policy.specs.Verdicts.{is_accepted}
+use Rattle.flp_known.specs.Among.{is_among}
 use Rattle.flp_worker.specs.Verdict.{verdict_of}
 
 -- the nonces that are known behind some records: the old claims, and the nonces of these records
 abbrev pub known_behind : (claims earlier : List (List ℕ)) → List (List ℕ)
 known_behind claims earlier = claims ++ map nonce_in earlier
-
--- whether a nonce is one of these
-abbrev pub is_among : List (List ℕ) → List ℕ → Bool
-is_among nonces nonce = list_any (pointwise nat_eq nonce) nonces
 
 -- the verdict on a record behind old claims and earlier records
 abbrev pub verdict_after : Program → Shape → (claims earlier : List (List ℕ)) → List ℕ → Verdict

@@ -1,23 +1,20 @@
 //! What decides the verdict on each record of a batch in turn.
-ghost use Rattle.std.specs.Prelude.{◌≡◌, ◌++◌, ◌<◌, ◌⊎◌, [], ◌∷◌, Ok, Some, List, ℕ, IfOk, OnOk, slice_get};
-ghost use Rattle.std.specs.Ordering.{nat_cmp};
-ghost use Rattle.std.specs.Cmp.Lexicographic.{slice_cmp};
-ghost use Rattle.std.specs.BTreeSet.{contains};
-ghost use Rattle.flp_report.specs.Record.{record_of, shape_of, nonce_in};
-ghost use Rattle.flp_report.specs.Nonces.{nonce_count, nonces_in};
+ghost use Rattle.std.specs.Prelude.{◌≡◌, ◌++◌, ◌<◌, ◌⊎◌, [], ◌∷◌, Ok, List, ℕ, IfOk, OnOk};
+ghost use Rattle.flp_report.specs.Record.{record_of, shape_of};
+ghost use Rattle.flp_report.specs.Nonces.{nonces_in};
 ghost use Rattle.flp_policy.specs.declared.verdict.Verdict.TheVariants.{Accepted as AcceptedVerdict, Rejected as RejectedVerdict};
 ghost use Rattle.flp_worker.specs.Verdict.{outs_in, share_verifier};
 ghost use Rattle.flp_worker.specs.Worker.{IsShapeOf, IsMadeFor};
-ghost use Rattle.flp_verdict.specs.Verdicts.{verdict_after, is_among};
+ghost use Rattle.flp_verdict.specs.Verdicts.{verdict_after};
 
 use crate::Memory;
 use flp_field::Fe;
+use flp_known::Met;
 use flp_plan::Plan;
 use flp_policy::Verdict;
 use flp_report::{Nonces, Record, Shape};
 use flp_worker::Worker;
 use std::alloc::Global;
-use std::collections::BTreeSet;
 
 /// The nonces that are known, and a worker for the records whose nonce is new.
 ///
@@ -28,41 +25,9 @@ pub struct Judging<'a> {
     claims: &'a Nonces,
     shape: Shape,
     worker: Worker,
-    seen: BTreeSet<[u8; 16]>,
+    met: Met,
     ghost fits: { IsShapeOf plan.now.circuit shape },
     ghost made: { IsMadeFor plan.now shape worker },
-}
-
-/// The nonce of a record.
-fn nonce_of(given: &Record) -> [u8; 16]
-    ensures { result ≡ nonce_in (record_of given.now) }
-{
-    let mut nonce = [0; 16];
-    nonce.copy_from_slice(given.nonce());
-    nonce
-}
-
-/// The old claim of this number, from 0.
-fn claim_at(claims: &Nonces, index: u32) -> [u8; 16]
-    requires { index < nonce_count claims.now }
-    ensures { slice_get (nonces_in claims.now) index ≡ Some result }
-{
-    flp_report::held_parts();
-    let mut nonce = [0; 16];
-    nonce.copy_from_slice(claims.at(index));
-    nonce
-}
-
-/// The old claims as a set.
-fn set_of(alloc: Global, claims: &Nonces) -> Result<BTreeSet<[u8; 16]>, Memory>
-    ensures { IfOk result (λ set. (nonce : List ℕ) → contains (slice_cmp nat_cmp) set nonce ≡ is_among (nonces_in claims.now) nonce) }
-{
-    flp_report::held_parts();
-    let mut set = BTreeSet::new(alloc);
-    for index in 0..claims.len() {
-        set.insert(claim_at(claims, index))?;
-    }
-    Ok(set)
 }
 
 impl<'a> Judging<'a> {
@@ -84,13 +49,13 @@ impl<'a> Judging<'a> {
         ensures fresh { IfOk result (λ j. Follows j []) }
     {
         let worker = Worker::new(alloc, plan, shape)?;
-        let seen = set_of(alloc, claims)?;
+        let met = Met::new(alloc);
         Ok(Judging {
             plan,
             claims,
             shape: *shape,
             worker,
-            seen,
+            met,
         })
     }
 
@@ -111,7 +76,8 @@ impl<'a> Judging<'a> {
             → (share proof : ℕ) → share < (record_shape_of self.old).shares → proof < (record_shape_of self.old).proofs
             → verifier_of self.new share proof ≡ share_verifier (program_of self.old) (record_shape_of self.old) (record_of given.now) share proof }
     {
-        if self.seen.insert(nonce_of(given))? {
+        flp_known::laws::added();
+        if self.met.add(self.claims, given.nonce())? {
             Ok(self.worker.verify_record(self.plan, &self.shape, given))
         } else {
             Ok(Verdict::Replayed)

@@ -8,9 +8,10 @@ ghost use Rattle.flp_circuits.specs.Sizes.{Fits};
 ghost use Rattle.flp_circuits.specs.Standard.{standard_program};
 ghost use Rattle.flp_report.specs.declared.shape.Shape.{Shape};
 ghost use Rattle.flp_verdict.specs.Laws.{JudgesOnce, AcceptsHonest, SumsMeasurements};
+ghost use Rattle.flp_verdict.specs.Apart.{JudgesApart};
 
 /// There is a verdict for each record, and it is Replayed exactly where the nonce is an old claim or that of an
-/// earlier record.
+/// earlier record; else it is the verdict of the record's own bytes.
 pub fn once()
     ensures { (program : Program) (shape : Shape) (claims reports : List (List ℕ)) → JudgesOnce program shape claims reports }
 {}
@@ -30,3 +31,9 @@ pub fn sums()
 {
     flp_circuits::laws::encodings();
 }
+
+/// A batch may be verified in parts, into which its records and old claims fall by their nonces: the verdicts in a part
+/// are those in the whole batch, and the counts and the aggregates of the parts add up to those of the whole.
+pub fn apart()
+    ensures { (program : Program) (shape : Shape) (claims reports : List (List ℕ)) → JudgesApart program shape claims reports }
+{}

@@ -8,7 +8,7 @@
 //! | To | Use |
 //! |---|---|
 //! | judge records in their order | [`Judging`]: `judge`, and then `row` or `verifier` of the record that was judged last |
-//! | make lines | [`push_line`], [`push_ending`] |
+//! | make lines | [`push_line`], [`push_ending`]; [`push_nonce`] and [`push_number`] for lines of another kind |
 //! | know what the verdicts and the aggregate promise | [`laws`] |
 #![tactic(auto)]
 
@@ -17,10 +17,7 @@ pub mod laws;
 mod text;
 
 pub use judging::Judging;
-pub use text::{push_ending, push_line};
+pub use text::{push_ending, push_line, push_nonce, push_number};
 
 /// Want of memory, as std's allocators answer it.
 pub use std::alloc::AllocError as Memory;
-
-#[cfg(test)]
-mod tests;

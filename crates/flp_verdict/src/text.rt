@@ -1,13 +1,13 @@
 //! The lines of the text, each appended to a buffer.
 ghost use Rattle.std.specs.Prelude.{◌≡◌, ◌++◌, length, decimal, OnOk};
-ghost use Rattle.flp_verdict.specs.Text.{spelled, line_with, spaced, ending_with};
+ghost use Rattle.flp_verdict.specs.Text.{spelled, line_head, line_with, spaced, ending_with};
 
 use crate::Memory;
 use flp_field::Fe;
 use flp_policy::Verdict;
 
 /// Appends a number in decimal digits.
-fn push_number(text: &mut Vec<u8>, number: u64) -> Result<(), Memory>
+pub fn push_number(text: &mut Vec<u8>, number: u64) -> Result<(), Memory>
     ensures { OnOk result (text.new.items ≡ text.old.items ++ decimal number) }
 {
     let mut digits = itoa::Buffer::new();
@@ -37,15 +37,24 @@ fn push_verdict(text: &mut Vec<u8>, verdict: Verdict) -> Result<(), Memory>
     Ok(())
 }
 
-/// Appends the line of a record: its nonce of 16 bytes in hexadecimal digits, and its verdict.
-pub fn push_line(text: &mut Vec<u8>, nonce: &[u8], verdict: Verdict) -> Result<(), Memory>
+/// Appends how a line begins: a nonce of 16 bytes in hexadecimal digits, and a space.
+pub fn push_nonce(text: &mut Vec<u8>, nonce: &[u8]) -> Result<(), Memory>
     requires { length nonce.now ≡ 16 }
-    ensures { OnOk result (text.new.items ≡ text.old.items ++ line_with nonce.now verdict) }
+    ensures { OnOk result (text.new.items ≡ text.old.items ++ line_head nonce.now) }
 {
     let mut digits = [0; 32];
     hex::encode_to_slice(nonce, &mut digits).unwrap();
     text.extend_from_slice(&digits)?;
     text.extend_from_slice(b" ")?;
+    Ok(())
+}
+
+/// Appends the line of a record: its nonce of 16 bytes in hexadecimal digits, and its verdict.
+pub fn push_line(text: &mut Vec<u8>, nonce: &[u8], verdict: Verdict) -> Result<(), Memory>
+    requires { length nonce.now ≡ 16 }
+    ensures { OnOk result (text.new.items ≡ text.old.items ++ line_with nonce.now (spelled verdict)) }
+{
+    push_nonce(text, nonce)?;
     push_verdict(text, verdict)?;
     text.extend_from_slice(b"\n")?;
     Ok(())

@@ -1,10 +1,10 @@
 -- One record more: the rows that are summed up, and what is kept.
 use Rattle.std.proofs.Common.{◌≡◌, ℕ, ◌+◌, ◌%◌, ◌<◌, List, [], ◌∷◌, ◌++◌, length, map, get_or, replicate, Bool, true, false, refl, sym, ap, subst, ◌∙◌, arith, length-append}
 use Rattle.std.specs.Prelude.{if◌then◌else◌}
-use Rattle.std.proofs.lemmas.List.{append-nil, map-append, length-replicate, get_or-replicate}
-use Rattle.flp_field.specs.Word.{modulus, word_sum}
+use Rattle.std.proofs.lemmas.List.{append-nil, map-append}
 use Rattle.flp_field.specs.Sums.{sum_of_lists}
-use Rattle.flp_field.proofs.ListSums.{column, column-cons, length-sum_of_lists, get_or-sum_of_lists, sum_of_lists_from}
+use Rattle.flp_field.proofs.ListSums.{length-sum_of_lists, sum_of_no_lists}
+use Rattle.flp_share.specs.Adding.{AddsList}
 use Rattle.flp_syntax.specs.Tree.{Program}
 use Rattle.flp_meaning.specs.Circuit.{direct}
 use Rattle.flp_meaning.specs.Gadgets.{out_count}
@@ -23,33 +23,9 @@ use Rattle.flp_verdict.proofs.JudgedLemmas.{judged_more, accepted_in_more}
 use Rattle.flp_verify.specs.declared.counting.Counting.{Counting}
 use Rattle.flp_verify.specs.Text.{judged_by}
 use Rattle.flp_verify.specs.Totals as totals
-use Rattle.flp_verify.specs.Counting.{setting_of, rows_by, Counts}
+use Rattle.flp_verify.specs.Counting.{setting_of, rows_by, HasCounted}
 
 -- ---- sums of rows
-
--- a row more, in the last place
-column-last : (rows : List (List ℕ)) (row : List ℕ) (k : ℕ) → column (rows ++ row ∷ []) k ≡ column rows k + get_or row k 0
-column-last [] row k =
-    let one : column (row ∷ []) k ≡ get_or row k 0 + column [] k = column-cons row [] k in
-    omega arith
-column-last (first ∷ rows) row k =
-    let whole : column (first ∷ (rows ++ row ∷ [])) k ≡ get_or first k 0 + column (rows ++ row ∷ []) k = column-cons first (rows ++ row ∷ []) k in
-    let others : column (rows ++ row ∷ []) k ≡ column rows k + get_or row k 0 = column-last rows row k in
-    let before : column (first ∷ rows) k ≡ get_or first k 0 + column rows k = column-cons first rows k in
-    omega arith
-
--- words to each of which the row's is added sum up one row more
-pub sum-last : (n : ℕ) (rows : List (List ℕ)) (row old new : List ℕ) → old ≡ sum_of_lists n rows → length new ≡ length old
-    → ((k : ℕ) → k < length old → get_or new k 0 ≡ word_sum (get_or old k 0) (get_or row k 0)) → new ≡ sum_of_lists n (rows ++ row ∷ [])
-sum-last n rows row old new is size each =
-    let long : length old ≡ n = ap length is ∙ length-sum_of_lists n rows in
-    sum_of_lists_from n new (rows ++ row ∷ []) (size ∙ long)
-    (λ (k : ℕ) (below : k < n).
-    let inside : k < length old = omega arith in
-    let here : get_or new k 0 ≡ (get_or old k 0 + get_or row k 0) % modulus = each k inside in
-    let before : get_or old k 0 ≡ column rows k % modulus = ap (λ (l : List ℕ). get_or l k 0) is ∙ get_or-sum_of_lists n rows k below in
-    let last : column (rows ++ row ∷ []) k ≡ column rows k + get_or row k 0 = column-last rows row k in
-    omega arith)
 
 -- one row more is counted
 pub counted-more : (rows : List (List ℕ)) (row : List ℕ) (count : ℕ) → count ≡ length rows → count + 1 ≡ length (rows ++ row ∷ [])
@@ -57,15 +33,15 @@ counted-more rows row count is =
     let long : length (rows ++ row ∷ []) ≡ length rows + 1 = length-append rows (row ∷ []) in
     omega arith
 
+-- sums to which a row is added sum up one row more
+pub adds-row : (outs : ℕ) (rows : List (List ℕ)) (row old new : List ℕ) → old ≡ sum_of_lists outs rows → AddsList row old new → new ≡ sum_of_lists outs (rows ++ row ∷ [])
+adds-row outs rows row old new is adds =
+    let long : length old ≡ outs = ap length is ∙ length-sum_of_lists outs rows in
+    adds rows (is ∙ ap (λ (n : ℕ). sum_of_lists n rows) (sym long)) ∙ ap (λ (n : ℕ). sum_of_lists n (rows ++ row ∷ [])) long
+
 -- of no row each sum is 0
 pub sum-none : (outs : ℕ) (sums : List ℕ) → sums ≡ replicate outs 0 → sums ≡ sum_of_lists outs []
-sum-none outs sums zeros =
-    zeros
-    ∙ sum_of_lists_from outs (replicate outs 0) [] (length-replicate outs 0)
-    (λ (k : ℕ) (below : k < outs).
-    let zero : get_or (replicate outs 0) k 0 ≡ 0 = get_or-replicate outs k 0 0 below in
-    let column : column [] k % modulus ≡ 0 = refl in
-    zero ∙ sym column)
+sum-none outs sums zeros = zeros ∙ sym (sum_of_no_lists outs)
 
 -- ---- records
 
@@ -104,7 +80,7 @@ Counts-more : (old new : Counting) (earlier : List (List ℕ)) (report : List �
     → verdict ≡ verdict_after (setting_of old).circuit (setting_of old).shape (setting_of old).claims earlier report
     → totals.SumUp (out_count (setting_of old).circuit)
     (rows_by (setting_of old) earlier ++ (if is_accepted verdict then outs_in (setting_of old).circuit (setting_of old).shape report ∷ [] else [])) new.totals
-    → Counts new (earlier ++ report ∷ [])
+    → HasCounted new (earlier ++ report ∷ [])
 Counts-more old new earlier report verdict same follows is up = record {
   follows = follows;
   totals =
@@ -122,7 +98,7 @@ pub Counts-accepted : (old new : Counting) (earlier : List (List ℕ)) (report r
     → verdict ≡ verdict_after (setting_of old).circuit (setting_of old).shape (setting_of old).claims earlier report
     → is_accepted verdict ≡ true → row ≡ outs_in (setting_of old).circuit (setting_of old).shape report
     → totals.SumUp (out_count (setting_of old).circuit) (rows_by (setting_of old) earlier ++ row ∷ []) new.totals
-    → Counts new (earlier ++ report ∷ [])
+    → HasCounted new (earlier ++ report ∷ [])
 Counts-accepted old new earlier report row verdict alike follows is accepted row_is up =
     let by = setting_of old in
     let P : Bool → Type 0 = λ b. totals.SumUp (out_count by.circuit) (rows_by by earlier ++ (if b then outs_in by.circuit by.shape report ∷ [] else [])) new.totals in
@@ -133,7 +109,7 @@ pub Counts-other : (old new : Counting) (earlier : List (List ℕ)) (report : Li
     → Follows new.judging (earlier ++ report ∷ [])
     → verdict ≡ verdict_after (setting_of old).circuit (setting_of old).shape (setting_of old).claims earlier report
     → is_accepted verdict ≡ false → totals.SumUp (out_count (setting_of old).circuit) (rows_by (setting_of old) earlier) new.totals
-    → Counts new (earlier ++ report ∷ [])
+    → HasCounted new (earlier ++ report ∷ [])
 Counts-other old new earlier report verdict alike follows is other up =
     let by = setting_of old in
     let P : Bool → Type 0 = λ b. totals.SumUp (out_count by.circuit) (rows_by by earlier ++ (if b then outs_in by.circuit by.shape report ∷ [] else [])) new.totals in

@@ -2,9 +2,11 @@
 pub mod TextLemmas
 -- one record more
 pub mod CountingLemmas
--- the shape of an opened batch
-pub mod ShapeLemmas
--- loaded circuits
-pub mod LoadedLemmas
--- from what holds at one outcome of a call to what follows there
-pub mod OutcomeLemmas
+-- what a tally's totals are to a batch
+pub mod TotalLemmas
+-- what is printed of a batch that was counted
+pub mod EndingLemmas
+-- what is put through a block, piece by piece
+pub mod PutsLemmas
+-- policies that are told a verdict, and the first that does not allow the release
+pub mod ToldLemmas

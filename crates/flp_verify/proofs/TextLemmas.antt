@@ -6,24 +6,21 @@ use Rattle.flp_batch.specs.Lines.{lines_from}
 use Rattle.flp_batch.specs.Lines as batch
 use Rattle.flp_worker.specs.Verdict.{outs_in}
 use Rattle.flp_verdict.specs.Verdicts.{judged_from, accepted_in}
-use Rattle.flp_verdict.specs.Text.{lines_of, ending_with, ending_of}
+use Rattle.flp_verdict.specs.Text.{judged_lines, ending_with, ending_of}
 use Rattle.flp_verify.specs.declared.counting.Counting.{Counting}
-use Rattle.flp_verify.specs.Text.{judged_by, line_by, lines_by, text_by}
-use Rattle.flp_verify.specs.Counting.{setting_of, accepted_of, sums_of, Counts}
+use Rattle.flp_verify.specs.Text.{judged_by, verdict_line, verdict_lines, text_by}
+use Rattle.flp_verify.specs.Counting.{setting_of, accepted_of, sums_of, HasCounted}
 
 lines_from-judged : (by : Setting) (earlier reports : List (List ℕ))
-    → lines_from (line_by by) earlier reports ≡ lines_of (judged_from by.circuit by.shape by.claims earlier reports)
+    → lines_from (verdict_line by) earlier reports ≡ judged_lines (judged_from by.circuit by.shape by.claims earlier reports)
 lines_from-judged by earlier [] = refl
 lines_from-judged by earlier (report ∷ reports) =
-    ap (λ (l : List ℕ). line_by by earlier report ++ l) (lines_from-judged by (earlier ++ report ∷ []) reports)
+    ap (λ (l : List ℕ). verdict_line by earlier report ++ l) (lines_from-judged by (earlier ++ report ∷ []) reports)
 
-lines-judged : (by : Setting) (reports : List (List ℕ)) → batch.lines_of (line_by by) reports ≡ lines_by by reports
+pub lines-judged : (by : Setting) (reports : List (List ℕ)) → batch.lines_of (verdict_line by) reports ≡ verdict_lines by reports
 lines-judged by reports = lines_from-judged by [] reports
 
-pub lines-same : (by to : Setting) → by ≡ to → (reports : List (List ℕ)) → batch.lines_of (line_by by) reports ≡ lines_by to reports
-lines-same by to same reports = lines-judged by reports ∙ ap (λ (s : Setting). lines_by s reports) same
-
-ending-counted : (c : Counting) (reports : List (List ℕ)) → Counts c reports
+ending-counted : (c : Counting) (reports : List (List ℕ)) → HasCounted c reports
     → ending_with (accepted_of c) (sums_of c) ≡ ending_of (setting_of c).circuit (setting_of c).shape (judged_by (setting_of c) reports)
 ending-counted c reports counts =
     let by = setting_of c in
@@ -32,9 +29,8 @@ ending-counted c reports counts =
     ap₂ ending_with number counts.totals.sums
 
 -- so the lines and the ending are the text
-pub text-same : (c : Counting) (by to : Setting) → setting_of c ≡ by → by ≡ to → (reports : List (List ℕ)) → Counts c reports
-    → batch.lines_of (line_by by) reports ++ ending_with (accepted_of c) (sums_of c) ≡ text_by to reports
-text-same c by to kept same reports counts =
-    let ending : ending_with (accepted_of c) (sums_of c) ≡ ending_of to.circuit to.shape (judged_by to reports) =
-    ending-counted c reports counts ∙ ap (λ (s : Setting). ending_of s.circuit s.shape (judged_by s reports)) (kept ∙ same) in
-    ap₂ (λ (l : List ℕ) (e : List ℕ). l ++ e) (lines-same by to same reports) ending
+pub text-counted : (c : Counting) (reports : List (List ℕ)) (empty ending : List ℕ) → HasCounted c reports → empty ≡ [] → ending ≡ empty ++ ending_with (accepted_of c) (sums_of c)
+    → batch.lines_of (verdict_line (setting_of c)) reports ++ ending ≡ text_by (setting_of c) reports
+text-counted c reports empty ending counted cleared made =
+    let own : ending ≡ ending_with (accepted_of c) (sums_of c) = made ∙ ap (λ (l : List ℕ). l ++ ending_with (accepted_of c) (sums_of c)) cleared in
+    ap₂ (λ (l : List ℕ) (e : List ℕ). l ++ e) (lines-judged (setting_of c) reports) (own ∙ ending-counted c reports counted)

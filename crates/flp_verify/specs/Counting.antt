@@ -15,7 +15,7 @@ setting_of c = record { circuit = program_of c.judging; shape = record_shape_of 
 
 -- how many records are accepted, and the sums of their outs
 abbrev pub accepted_of : Counting → ℕ
-accepted_of c = totals.accepted_in c.totals
+accepted_of c = totals.count_in c.totals
 
 abbrev pub sums_of : Counting → List ℕ
 sums_of c = totals.sums_in c.totals
@@ -25,6 +25,6 @@ abbrev pub rows_by : Setting → (reports : List (List ℕ)) → List (List ℕ)
 rows_by by reports = map (outs_in by.circuit by.shape) (accepted_in (judged_by by reports))
 
 -- exactly these records were judged, in this order, and the outs of the accepted ones summed up
-pub record Counts (c : Counting) (reports : List (List ℕ)) : Type 0 where
+pub record HasCounted (c : Counting) (reports : List (List ℕ)) : Type 0 where
   pub follows : Follows c.judging reports
   pub totals : totals.SumUp (out_count (program_of c.judging)) (rows_by (setting_of c) reports) c.totals

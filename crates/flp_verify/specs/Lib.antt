@@ -5,3 +5,13 @@ pub mod Text
 pub mod Totals
 -- what is kept over the records that were judged
 pub mod Counting
+-- how many places have each verdict
+pub mod Numbers
+-- what is put through a block
+pub mod Puts
+-- a batch that was counted, and what is printed of it
+pub mod Counted
+-- the rows that places bring to the sums
+pub mod Rows
+-- what the totals of these rows are, and what is printed of them
+pub mod Laws

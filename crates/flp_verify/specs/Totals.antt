@@ -4,8 +4,8 @@ use Rattle.flp_field.specs.Sums.{sum_of_lists}
 use Rattle.flp_verify.specs.declared.totals.Totals.{Totals}
 
 -- how many rows were added
-abbrev pub accepted_in : Totals → ℕ
-accepted_in totals = totals.accepted
+abbrev pub count_in : Totals → ℕ
+count_in totals = totals.accepted
 
 -- and their sums
 abbrev pub sums_in : Totals → List ℕ
@@ -13,5 +13,5 @@ sums_in totals = totals.sums.items
 
 -- exactly these rows were added, of so many words each
 pub record SumUp (outs : ℕ) (rows : List (List ℕ)) (totals : Totals) : Type 0 where
-  pub accepted : accepted_in totals ≡ length rows
+  pub accepted : count_in totals ≡ length rows
   pub sums : sums_in totals ≡ sum_of_lists outs rows

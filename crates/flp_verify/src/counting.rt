@@ -1,10 +1,9 @@
 //! What `verify` makes of each record of a batch, and keeps.
-ghost use Rattle.std.specs.Prelude.{◌≡◌, ◌++◌, [], length, IfOk, OnOk};
+ghost use Rattle.std.specs.Prelude.{◌≡◌, [], length, IfOk};
 ghost use Rattle.flp_meaning.specs.Gadgets.{out_count};
 ghost use Rattle.flp_report.specs.Nonces.{nonces_in};
 ghost use Rattle.flp_worker.specs.Worker.{IsShapeOf};
 ghost use Rattle.flp_verdict.specs.Judging.{program_of};
-ghost use Rattle.flp_verdict.specs.Text.{ending_with};
 ghost use Rattle.flp_verify.specs.Totals.{sums_in};
 
 use crate::Memory;
@@ -24,7 +23,7 @@ pub(crate) struct Counting<'a> {
 }
 
 impl<'a> Counting<'a> {
-    ghost use Rattle.flp_verify.specs.Counting.{setting_of, accepted_of, sums_of, Counts};
+    ghost use Rattle.flp_verify.specs.Counting.{setting_of, accepted_of, HasCounted};
 
     /// Before the first record of a batch with this circuit, shape and old claims.
     pub(crate) fn new(
@@ -35,33 +34,26 @@ impl<'a> Counting<'a> {
     ) -> Result<Counting<'a>, Memory>
         requires { IsShapeOf plan.now.circuit shape.now }
         ensures setting { IfOk result (λ c. setting_of c ≡ record { circuit = plan.now.circuit; shape = shape.now; claims = nonces_in claims.now }) }
-        ensures fresh { IfOk result (λ c. Counts c []) }
+        ensures fresh { IfOk result (λ c. HasCounted c []) }
         ensures none { IfOk result (λ c. accepted_of c ≡ 0) }
     {
         let judging = Judging::new(alloc, plan, shape, claims)?;
         let totals = Totals::new(alloc, plan.lengths().outs)?;
         Ok(Counting { judging, totals })
     }
-
-    /// Appends the count line and the aggregate line.
-    pub(crate) fn push_ending(&self, text: &mut Vec<u8>) -> Result<(), Memory>
-        ensures { OnOk result (text.new.items ≡ text.old.items ++ ending_with (accepted_of self.now) (sums_of self.now)) }
-    {
-        push_ending(text, self.totals.accepted(), self.totals.sums())
-    }
 }
 
 impl<'a> Judge for Counting<'a> {
-    ghost use Rattle.flp_verify.specs.Text.{line_by};
-    ghost use Rattle.flp_verify.specs.Counting.{setting_of, accepted_of, Counts};
+    ghost use Rattle.flp_verify.specs.Text.{words_by};
+    ghost use Rattle.flp_verify.specs.Counting.{setting_of, accepted_of, HasCounted};
 
-    ghost setting = { setting_of };
+    ghost record_shape = { λ c. (setting_of c).shape };
 
-    ghost line_of = { λ c. line_by (setting_of c) };
+    ghost wording = { λ c. words_by (setting_of c) };
 
-    ghost follows = { Counts };
+    ghost follows = { HasCounted };
 
-    ghost judged = { accepted_of };
+    ghost count = { accepted_of };
 
     fn judge(&mut self, given: &Record, line: &mut Vec<u8>) -> Result<(), AllocError> {
         let verdict = self.judging.judge(given)?;
@@ -71,5 +63,10 @@ impl<'a> Judge for Counting<'a> {
             self.totals.add(self.judging.row());
         }
         Ok(())
+    }
+
+    fn end(&self, ending: &mut Vec<u8>) -> Result<(), AllocError> {
+        ending.clear();
+        push_ending(ending, self.totals.accepted(), self.totals.sums())
     }
 }

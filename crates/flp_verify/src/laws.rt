@@ -1,11 +1,12 @@
 //! The laws of what `verify` writes, each the contract of a function that does nothing. The statements are in
-//! flp_verdict's `specs/Laws.antt`.
+//! flp_verdict's `specs/Laws.antt` and in `specs/Laws.antt` here.
 ghost use Rattle.std.specs.Prelude.{ℕ, List, Option, Some};
 ghost use Rattle.flp_syntax.specs.Tree.{Program};
 ghost use Rattle.flp_syntax.specs.declared.syntax.Params.{Params};
 ghost use Rattle.flp_report.specs.declared.shape.Shape.{Shape};
 ghost use Rattle.flp_load.specs.Loaded.{IsLoaded};
 ghost use Rattle.flp_verdict.specs.Laws.{AcceptsHonest, SumsMeasurements};
+ghost use Rattle.flp_verify.specs.Laws.{TotalsAreAggregate, RowsStay, EndingIsReleased};
 
 /// An honest record of a batch, whatever circuit its text is loaded as, is in the domain exactly where some query
 /// point is, and else accepted.
@@ -13,6 +14,7 @@ pub fn honest()
     ensures { (text : List ℕ) (params : Option Params) (program : Program) → IsLoaded text params program
         → (shape : Shape) (claims reports : List (List ℕ)) → AcceptsHonest program shape claims reports }
 {
+    flp_load::laws::loaded_is_bounded();
     flp_verdict::laws::honest();
 }
 
@@ -23,4 +25,21 @@ pub fn sums()
         → (shape : Shape) (claims reports : List (List ℕ)) → SumsMeasurements program params shape claims reports }
 {
     flp_verdict::laws::sums();
+}
+
+/// Where the rows of a batch's places were added to a tally, each place's once, its totals are the aggregate of the batch.
+/// Records that follow change no row of the places before them.
+pub fn totals_are_aggregate()
+    ensures totals { TotalsAreAggregate }
+    ensures stay { RowsStay }
+{
+    flp_pool::laws::row_sums();
+}
+
+/// What [`finish`](crate::finish) writes of a batch that was counted is what follows the lines of the batch: its count line,
+/// the line of its aggregate or of the policy that withholds it, and its claims where they are asked for.
+pub fn ending_is_released()
+    ensures { EndingIsReleased }
+{
+    flp_pool::laws::row_sums();
 }

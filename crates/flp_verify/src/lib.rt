@@ -5,21 +5,30 @@
 //! contract says which text it writes, as a function of the bytes that it reads: `text_of` in flp_verdict's
 //! `specs/Text.antt`, for any circuit, 2 to 16 shares and 1 to 16 proofs.
 //!
+//! [`finish`] ends a batch whose rows lie in a tally: it closes the tally and writes what follows the lines, which policies
+//! may withhold, and the claims.
+//!
 //! What a caller needs beside it is handed on from the crates below: the loaded circuit of a text, and the [`Worker`]
 //! that verifies one record.
 #![tactic(auto)]
 
+mod closing;
 mod command;
+mod counted;
 mod counting;
+mod ending;
 pub mod laws;
-#[cfg(test)]
-mod tests;
+mod numbers;
+mod policies;
 mod totals;
 
+pub use closing::finish;
 pub use command::verify;
+pub use counted::{Counted, End, Summary};
 pub use flp_batch::EngineFault;
 pub use flp_load::{CircuitFault, LoadFault, Loaded, load_circuit};
 pub use flp_worker::Worker;
+pub use numbers::Numbers;
 
 /// Want of memory, as std's allocators answer it.
 pub use std::alloc::AllocError as Memory;

@@ -1,7 +1,7 @@
 -- Checks that fail: where no gadget lies, a word that combines a failing check is accepted at one value, and a check that stands alone at none.
-use Rattle.std.proofs.Common.{ℕ, zero, suc, ◌≡◌, ◌≢◌, ◌+◌, ◌*◌, ◌%◌, ◌<◌, ◌≤◌, Bool, true, false, cond, List, [], ◌∷◌, length, map, set, refl, ap, sym, ◌∙◌, arith, ⊎_elim, eqb, ltb}
-use Rattle.std.specs.Prelude.{not, slice_index}
-use Rattle.std.proofs.lemmas.Bool.{false≢true, cases_eq, eq-eqb, ltb-false}
+use Rattle.std.proofs.Common.{ℕ, zero, suc, ◌≡◌, ◌≢◌, ◌+◌, ◌*◌, ◌%◌, ◌<◌, ◌≤◌, Bool, true, false, cond, List, [], ◌∷◌, length, map, set, ap, sym, ◌∙◌, arith, ⊎_elim, ltb}
+use Rattle.std.specs.Prelude.{slice_index}
+use Rattle.std.proofs.lemmas.Bool.{cases_eq, ltb-false}
 use Rattle.std.proofs.lemmas.List.Elements.{All-append, All-cons, All-nil}
 use Rattle.flp_field.specs.Word.{modulus, IsWord, AreWords}
 use Rattle.flp_field.proofs.Congruence.{same_cancel, mod_word, word_mod}
@@ -9,14 +9,13 @@ use Rattle.flp_field.proofs.ProductLemmas.{cancelled}
 use Rattle.flp_syntax.specs.Tree.{Statement, check, out, each, Statements, no_stmts, stmt_on, Declaration, Program}
 use Rattle.flp_syntax.specs.Sorts.{is_shared}
 use Rattle.flp_syntax.specs.Scope.{Scope, inside, index_value, turns}
-use Rattle.flp_meaning.specs.Meaning.{Run, Results, Reading, counted, meaning, performed, statement_of, statements_of}
+use Rattle.flp_meaning.specs.Meaning.{Run, Results, Reading, in_units, meaning, all_results, statement_of, statements_of}
 use Rattle.flp_meaning.specs.Circuit.{checks_of, direct}
 use Rattle.flp_meaning.specs.Gadgets.{check_count}
 use Rattle.flp_meaning.specs.Lengths.{check_words}
-use Rattle.flp_meaning.specs.Proof.{proved}
-use Rattle.flp_meaning.specs.Verifier.{combined, check_of}
+use Rattle.flp_meaning.specs.Proof.{with_proof}
+use Rattle.flp_meaning.specs.Verifier.{combination, check_of}
 use Rattle.flp_weak.specs.AtMost.{AcceptsWith, Bounded}
-use Rattle.flp_weak.specs.WeakWord.{check_fails}
 use Rattle.flp_weak.proofs.CountLemmas.{at_most_one, at_most_none}
 use Rattle.flp_weak.proofs.LieLemmas.{accepted-holds}
 
@@ -29,11 +28,11 @@ HaveWords : List (Run Results) → Type 0
 HaveWords [] = Unit {0}
 HaveWords (run ∷ more) = HasWords run × HaveWords more
 
-performed-words : (runs : List (Run Results)) → HaveWords runs → HasWords (performed runs)
+performed-words : (runs : List (Run Results)) → HaveWords runs → HasWords (all_results runs)
 unfolding HasWords HaveWords
 performed-words [] h made = All-nil IsWord
 performed-words (run ∷ more) h made =
-    All-append IsWord (run made).value.checks (performed more (made + length (run made).calls)).value.checks (h.0 made)
+    All-append IsWord (run made).value.checks (all_results more (made + length (run made).calls)).value.checks (h.0 made)
     (performed-words more h.1 (made + length (run made).calls))
 
 turns-words : (run : ℕ → Run Results) (values : List ℕ) → ((turn : ℕ) → HasWords (run turn)) → HaveWords (map run values)
@@ -46,14 +45,14 @@ mutual
 
   statement-words : (gadgets : List Declaration) (reading : Reading) (scope : Scope) (stmt : Statement) → HasWords (statement_of gadgets reading scope stmt)
   statement-words gadgets reading scope (check at expr) = λ made.
-      All-cons IsWord ((counted reading (is_shared expr) (meaning gadgets reading scope expr) made).value % modulus) []
-      (mod_word (counted reading (is_shared expr) (meaning gadgets reading scope expr) made).value) (All-nil IsWord)
+      All-cons IsWord ((in_units reading (is_shared expr) (meaning gadgets reading scope expr) made).value % modulus) []
+      (mod_word (in_units reading (is_shared expr) (meaning gadgets reading scope expr) made).value) (All-nil IsWord)
   statement-words gadgets reading scope (out at expr) = λ made. All-nil IsWord
   statement-words gadgets reading scope (each at name from to inner) =
       performed-words
-      (map (λ turn. performed (statements_of gadgets reading (inside scope name turn) inner)) (turns (index_value scope from) (index_value scope to)))
+      (map (λ turn. all_results (statements_of gadgets reading (inside scope name turn) inner)) (turns (index_value scope from) (index_value scope to)))
       (turns-words
-      (λ turn. performed (statements_of gadgets reading (inside scope name turn) inner))
+      (λ turn. all_results (statements_of gadgets reading (inside scope name turn) inner))
       (turns (index_value scope from) (index_value scope to))
       (λ turn.
       performed-words (statements_of gadgets reading (inside scope name turn) inner)
@@ -73,20 +72,20 @@ checks-words body reading =
 
 -- the word of a check enters the combined checks by its product with the check
 combined-set : (checks query : List ℕ) (k word : ℕ) → k < length query
-    → combined checks (set query k word) ≡ word * slice_index checks k + combined checks (set query k 0)
+    → combination checks (set query k word) ≡ word * slice_index checks k + combination checks (set query k 0)
 combined-set [] query k word low = omega arith
 combined-set (value ∷ more) [] k word low = absurd (omega arith)
 combined-set (value ∷ more) (first ∷ query) zero word low = omega arith
 combined-set (value ∷ more) (first ∷ query) (suc k) word low =
-    let rest : combined more (set query k word) ≡ word * slice_index more k + combined more (set query k 0) =
+    let rest : combination more (set query k word) ≡ word * slice_index more k + combination more (set query k 0) =
     combined-set more query k word (omega arith) in
     omega arith
 
-check-several : (body : Program) (checks query : List ℕ) → ltb 1 (check_count body) ≡ true → check_of body checks query ≡ combined checks query % modulus
-check-several body checks query several = ap (λ b. cond b (combined checks query % modulus) (slice_index checks 0)) several
+check-several : (body : Program) (checks query : List ℕ) → ltb 1 (check_count body) ≡ true → check_of body checks query ≡ combination checks query % modulus
+check-several body checks query several = ap (λ b. cond b (combination checks query % modulus) (slice_index checks 0)) several
 
 check-alone : (body : Program) (checks query : List ℕ) → ltb 1 (check_count body) ≡ false → check_of body checks query ≡ slice_index checks 0
-check-alone body checks query alone = ap (λ b. cond b (combined checks query % modulus) (slice_index checks 0)) alone
+check-alone body checks query alone = ap (λ b. cond b (combination checks query % modulus) (slice_index checks 0)) alone
 
 pub words-several : (body : Program) → ltb 1 (check_count body) ≡ true → check_words body ≡ check_count body
 words-several body several = ap (λ b. cond b (check_count body) 0) several
@@ -108,17 +107,9 @@ only_factor a b z rest a_word b_word z_word other first second =
 
 -- ---- a check that fails
 
-fails_not_zero : (value : ℕ) (zero_there : Bool) → eqb value 0 ≡ zero_there → not zero_there ≡ true → value ≢ 0
-fails_not_zero value true is fails e = false≢true fails
-fails_not_zero value false is fails e = false≢true (sym is ∙ eq-eqb value 0 e)
-
-pub failing-not_zero : (body : Program) (x joint : List ℕ) (number : ℕ) → check_fails body x joint number ≡ true
-    → slice_index (checks_of body (direct body x joint)) number ≢ 0
-failing-not_zero body x joint number fails = fails_not_zero (slice_index (checks_of body (direct body x joint)) number) _ refl fails
-
 -- an accepted query, where the proof answers as the calls do, has a check of 0
 accepted-zero : (body : Program) (x joint proof query : List ℕ) (number word : ℕ)
-    → checks_of body (proved body x joint proof 1) ≡ checks_of body (direct body x joint)
+    → checks_of body (with_proof body x joint proof 1) ≡ checks_of body (direct body x joint)
     → AcceptsWith body x joint proof query number word → check_of body (checks_of body (direct body x joint)) (set query number word) ≡ 0
 accepted-zero body x joint proof query number word same accepts =
     ap (λ (l : List ℕ). check_of body l (set query number word)) (sym same)
@@ -126,14 +117,14 @@ accepted-zero body x joint proof query number word same accepts =
 
 zero-product : (body : Program) (checks query : List ℕ) (number word : ℕ) → ltb 1 (check_count body) ≡ true → number < length query
     → check_of body checks (set query number word) ≡ 0
-    → (word * slice_index checks number + combined checks (set query number 0)) % modulus ≡ 0
+    → (word * slice_index checks number + combination checks (set query number 0)) % modulus ≡ 0
 zero-product body checks query number word several low none =
     ap (λ (n : ℕ). n % modulus) (sym (combined-set checks query number word low))
     ∙ sym (check-several body checks (set query number word) several)
     ∙ none
 
 pub check-bounded_by : (body : Program) (x joint proof : List ℕ) (number : ℕ) (several : Bool) → ltb 1 (check_count body) ≡ several
-    → checks_of body (proved body x joint proof 1) ≡ checks_of body (direct body x joint)
+    → checks_of body (with_proof body x joint proof 1) ≡ checks_of body (direct body x joint)
     → number < check_count body → slice_index (checks_of body (direct body x joint)) number ≢ 0
     → length (checks_of body (direct body x joint)) ≡ check_count body
     → Bounded body x joint proof (cond several number 0) (cond several 1 0)
@@ -143,7 +134,7 @@ check-bounded_by body x joint proof number true several same inside fails count 
     let low : number < length query = omega arith in
     at_most_one (AcceptsWith body x joint proof query number)
     (λ a b first second.
-    only_factor a b (slice_index checks number) (combined checks (set query number 0)) first.is_word second.is_word
+    only_factor a b (slice_index checks number) (combination checks (set query number 0)) first.is_word second.is_word
     (checks-words body (direct body x joint) number 0 (omega arith)) fails
     (zero-product body checks query number a several low (accepted-zero body x joint proof query number a same first))
     (zero-product body checks query number b several low (accepted-zero body x joint proof query number b same second)))

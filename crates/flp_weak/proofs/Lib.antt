@@ -9,7 +9,5 @@ pub mod LieLemmas
 pub mod CheckLemmas
 -- which word is weak
 pub mod WeakLemmas
--- looking for a gadget that lies
-pub mod FindLemmas
 -- choices for several proofs
 pub mod ChoiceLemmas

@@ -1,5 +1,5 @@
 -- Gadgets that lie: where one does, its point is accepted at few words.
-use Rattle.std.proofs.Common.{ℕ, ◌≡◌, ◌≢◌, ◌+◌, ◌-◌, ◌*◌, ◌<◌, ◌≤◌, Bool, true, false, List, length, drop, get_or, set, refl, ap, sym, subst, ◌∙◌, arith, get_or-set_same}
+use Rattle.std.proofs.Common.{ℕ, ◌≡◌, ◌≢◌, ◌+◌, ◌-◌, ◌*◌, ◌<◌, ◌≤◌, Bool, true, false, List, length, drop, get_or, set, refl, ap, ap₂, sym, subst, ◌∙◌, arith, get_or-set_same}
 use Rattle.std.specs.Prelude.{not, nat_eq, Option, None, Some}
 use Rattle.std.specs.Cmp.Lexicographic.{pointwise}
 use Rattle.std.specs.List.{range_with_len, sum_by}
@@ -11,14 +11,15 @@ use Rattle.flp_field.specs.Word.{IsWord, AreWords}
 use Rattle.flp_poly.specs.Polynomial.{value_at}
 use Rattle.flp_poly.specs.Interpolation.{interpolated}
 use Rattle.flp_poly.proofs.Interpolation.{length-interpolated}
+use Rattle.flp_gadget.specs.KindTree.{formula_of}
 use Rattle.flp_gadget.proofs.FormulaLemmas.{length-formula, words-formula}
 use Rattle.flp_syntax.specs.Tree.{Program}
 use Rattle.flp_meaning.specs.Meaning.{Call}
-use Rattle.flp_meaning.specs.Circuit.{kind_of, calls_of}
+use Rattle.flp_meaning.specs.Circuit.{kind_of, calls_of, with_answers}
 use Rattle.flp_meaning.specs.Gadgets.{gadgets_of, arity_of, degree_of, size_of, log_of}
 use Rattle.flp_meaning.specs.Lengths.{lengths_of, start_of, check_words, coefficient_count, proof_part}
-use Rattle.flp_meaning.specs.Wires.{wire_values}
-use Rattle.flp_meaning.specs.Proof.{seeds_in, polynomial_in, formula_in, wires_in, proved, IsTrueOf}
+use Rattle.flp_meaning.specs.Wires.{wire_values, wires_of}
+use Rattle.flp_meaning.specs.Proof.{seeds_in, polynomial_in, formula_in, wires_in, with_proof, answers_in, IsTrueOf}
 use Rattle.flp_meaning.specs.Verifier.{answer_from, gadget_in_domain, verifier_words, is_taken, accepts, point_of}
 use Rattle.flp_meaning.specs.ProofLaws.{IsBounded, Holds}
 use Rattle.flp_meaning.proofs.PartLemmas.{part_inside, length-words_at}
@@ -59,7 +60,7 @@ pub length-formula_in : (body : Program) (x joint proof : List ℕ) (gadget : �
     → length (formula_in body x joint proof 1 gadget) ≡ coefficient_count body gadget
 length-formula_in body x joint proof gadget bounded inside =
     let size : ℕ = size_of body gadget in
-    let calls : List Call = calls_of body (proved body x joint proof 1) in
+    let calls : List Call = calls_of body (with_proof body x joint proof 1) in
     let seeds : List ℕ = seeds_in body proof gadget in
     length-formula (kind_of body gadget) (wires_in body x joint proof 1 gadget) size (bounded.kinds gadget inside) (pow_pos (log_of body gadget))
     (length-wires body calls seeds gadget)
@@ -117,3 +118,17 @@ lying-bounded body x joint proof gadget bounded good inside lies query size =
     (words-polynomial body proof gadget good.words) (words-formula (kind_of body gadget) (wires_in body x joint proof 1 gadget) (bounded.kinds gadget inside))
     (length-polynomial body proof gadget inside good.size) (length-formula_in body x joint proof gadget bounded inside)
     (lies-differ body x joint proof gadget lies))
+
+-- ---- looking for one
+
+-- the polynomial was compared with the formula at the wires, so it was found whether the gadget lies
+pub lies-found : (body : Program) (x joint proof answers : List ℕ) (unit gadget : ℕ) (seeds poly formula : List ℕ) (found : Bool)
+    → answers ≡ answers_in body proof → unit ≡ 1 → seeds ≡ seeds_in body proof gadget → poly ≡ polynomial_in body proof gadget
+    → formula ≡ formula_of (kind_of body gadget) (wires_of body (calls_of body (with_answers x joint unit answers)) seeds gadget)
+    → found ≡ not (pointwise nat_eq poly formula) → found ≡ gadget_lies body x joint proof gadget
+lies-found body x joint proof answers unit gadget seeds poly formula found same_answers same_unit same_seeds same_poly written own =
+    let at : formula ≡ formula_in body x joint proof 1 gadget =
+    written
+    ∙ ap₂ (λ (a : List ℕ) (u : ℕ). formula_of (kind_of body gadget) (wires_of body (calls_of body (with_answers x joint u a)) seeds gadget)) same_answers same_unit
+    ∙ ap (λ (s : List ℕ). formula_of (kind_of body gadget) (wires_of body (calls_of body (with_proof body x joint proof 1)) s gadget)) same_seeds in
+    own ∙ ap₂ (λ (p f : List ℕ). not (pointwise nat_eq p f)) same_poly at

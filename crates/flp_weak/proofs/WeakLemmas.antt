@@ -1,46 +1,27 @@
 -- Which word is weak, and that it is accepted at few values.
-use Rattle.std.proofs.Common.{ℕ, ◌≡◌, ◌+◌, ◌-◌, ◌*◌, ◌<◌, ◌≤◌, Bool, true, false, cond, List, length, refl, ap, sym, subst, arith, eqb, ltb}
-use Rattle.std.specs.Prelude.{not, slice_index, Option, None, Some, IfSome}
+use Rattle.std.proofs.Common.{ℕ, ◌≡◌, ◌+◌, ◌-◌, ◌*◌, ◌<◌, ◌≤◌, Bool, true, false, cond, List, length, refl, ap, sym, subst, arith, ltb}
+use Rattle.std.specs.Prelude.{Option, None, Some, IfSome}
 use Rattle.std.specs.Option.{unwrap_or}
 use Rattle.std.proofs.lemmas.Option.{none-some}
-use Rattle.std.proofs.lemmas.Bool.{false≢true, eqb-true}
-use Rattle.std.proofs.lemmas.List.Elements.{All-from_get_or}
 use Rattle.flp_syntax.specs.Tree.{Program}
 use Rattle.flp_meaning.specs.Meaning.{Meant, Results}
-use Rattle.flp_meaning.specs.Circuit.{checks_of, direct, IsValid}
+use Rattle.flp_meaning.specs.Circuit.{checks_of, direct, failing_check}
 use Rattle.flp_meaning.specs.Gadgets.{degree_of, size_of, check_count}
 use Rattle.flp_meaning.specs.Lengths.{check_words}
-use Rattle.flp_meaning.specs.Proof.{proved}
+use Rattle.flp_meaning.specs.Proof.{with_proof}
 use Rattle.flp_meaning.specs.ProofLaws.{IsBounded, IsFirst}
+use Rattle.flp_meaning.proofs.FailingLemmas.{failing-inside, failing-not_zero, none_fails-valid, valid-none_fails}
 use Rattle.flp_meaning.proofs.Fixed.{checks_are_fixed}
 use Rattle.flp_meaning.proofs.Honest.{true_proofs_are_direct}
 use Rattle.flp_meaning.proofs.PowerLemmas.{first_is_found}
-use Rattle.flp_plan.specs.Limits.{IsWithinLimits}
 use Rattle.flp_weak.specs.AtMost.{Bounded}
-use Rattle.flp_weak.specs.WeakWord.{check_fails, failing_check, gadget_lies, lying_gadget, weak_point, weak_check, weak_from, weak_of}
+use Rattle.flp_weak.specs.WeakWord.{gadget_lies, lying_gadget, weak_point, weak_check, weak_from, weak_of}
 use Rattle.flp_weak.specs.Laws.{IsProof, ValidHasNone, WeakIsBounded, IsLow, BoundIsLow}
 use Rattle.flp_weak.specs.declared.word.Weak.{Weak}
 use Rattle.flp_weak.proofs.LieLemmas.{lying-bounded, true-same}
-use Rattle.flp_weak.proofs.CheckLemmas.{failing-not_zero, check-bounded_by, words-several, words-alone}
+use Rattle.flp_weak.proofs.CheckLemmas.{check-bounded_by, words-several, words-alone}
 
-pub bounded-from_limits : (body : Program) → IsWithinLimits body → IsBounded body
-bounded-from_limits body limits = record {
-  some_gadget = limits.some_gadgets;
-  kinds = λ gadget inside. (limits.gadgets gadget inside).kind;
-  few_calls = λ gadget inside. (limits.gadgets gadget inside).few_calls;
-}
-
--- ---- which check fails and which gadget lies
-
-first_check : (body : Program) (x joint : List ℕ) (found : Option ℕ) → failing_check body x joint ≡ found
-    → IsFirst (check_fails body x joint) 0 (check_count body) found
-first_check body x joint found is =
-    subst (IsFirst (check_fails body x joint) 0 (check_count body)) is (first_is_found (check_fails body x joint) 0 (check_count body))
-
-pub inside_check : (body : Program) (x joint : List ℕ) (number : ℕ) → failing_check body x joint ≡ Some number → number < check_count body
-inside_check body x joint number is =
-    let inside : number < 0 + check_count body = (first_check body x joint (Some number) is).1 in
-    omega arith
+-- ---- which gadget lies
 
 first_gadget : (body : Program) (x joint proof : List ℕ) (found : Option ℕ) → lying_gadget body x joint proof ≡ found
     → IsFirst (gadget_lies body x joint proof) 0 (length body.gadgets) found
@@ -53,25 +34,6 @@ inside_gadget body x joint proof gadget is =
     omega arith
 
 -- ---- validity
-
-zero_where : (value : ℕ) (zero_there : Bool) → eqb value 0 ≡ zero_there → not zero_there ≡ false → value ≡ 0
-zero_where value true is fails = eqb-true value 0 is
-zero_where value false is fails = absurd (false≢true (sym fails))
-
-none_fails-valid : (body : Program) (x joint : List ℕ) → failing_check body x joint ≡ None → IsValid body x joint
-none_fails-valid body x joint none =
-    let checks : List ℕ = checks_of body (direct body x joint) in
-    let count : length checks ≡ check_count body = checks_are_fixed body (direct body x joint) in
-    All-from_get_or (λ value. value ≡ 0) checks 0
-    (λ number low. zero_where (slice_index checks number) _ refl (first_check body x joint None none number (omega arith) (omega arith)))
-
-valid-none_fails : (body : Program) (x joint : List ℕ) (found : Option ℕ) → failing_check body x joint ≡ found → IsValid body x joint → found ≡ None
-valid-none_fails body x joint None is valid = refl
-valid-none_fails body x joint (Some number) is valid =
-    let first = first_check body x joint (Some number) is in
-    let count : length (checks_of body (direct body x joint)) ≡ check_count body = checks_are_fixed body (direct body x joint) in
-    let inside : number < 0 + check_count body = first.1 in
-    absurd (failing-not_zero body x joint number first.2 (valid number 0 (omega arith)))
 
 none_from : (body : Program) (number gadget : Option ℕ) → weak_from body number gadget ≡ None → number ≡ None
 none_from body None gadget is = refl
@@ -102,7 +64,7 @@ weak_check-alone body number alone =
 
 -- where no gadget lies, the answered checks are the direct ones
 none_lies-direct : (body : Program) (x joint proof : List ℕ) → IsBounded body → IsProof body proof → lying_gadget body x joint proof ≡ None
-    → checks_of body (proved body x joint proof 1) ≡ checks_of body (direct body x joint)
+    → checks_of body (with_proof body x joint proof 1) ≡ checks_of body (direct body x joint)
 none_lies-direct body x joint proof bounded good none =
     ap (λ (meant : Meant Results). meant.value.checks)
     (true_proofs_are_direct body x joint proof bounded good.words
@@ -120,10 +82,9 @@ check-bounded : (body : Program) (x joint proof : List ℕ) (number : ℕ) (seve
     → failing_check body x joint ≡ Some number → lying_gadget body x joint proof ≡ None
     → Bounded body x joint proof (weak_check body number).word (weak_check body number).bound
 check-bounded body x joint proof number several is bounded good fails none =
-    let first = first_check body x joint (Some number) fails in
     let by : Bounded body x joint proof (cond several number 0) (cond several 1 0) =
-    check-bounded_by body x joint proof number several is (none_lies-direct body x joint proof bounded good none) (inside_check body x joint number fails)
-    (failing-not_zero body x joint number first.2) (checks_are_fixed body (direct body x joint)) in
+    check-bounded_by body x joint proof number several is (none_lies-direct body x joint proof bounded good none) (failing-inside body x joint number fails)
+    (failing-not_zero body x joint number fails) (checks_are_fixed body (direct body x joint)) in
     check_case body x joint proof number several is by
 
 bounded_cases : (body : Program) (x joint proof : List ℕ) (weak : Weak) (number gadget : Option ℕ) → IsBounded body → IsProof body proof
@@ -183,7 +144,7 @@ low_cases : (body : Program) (x joint proof : List ℕ) (weak : Weak) (number ga
 low_cases body x joint proof weak None gadget some fails lies is = absurd (none-some weak is)
 low_cases body x joint proof weak (Some number) None some fails lies is =
     subst (IsLow body) (same_weak (weak_check body number) weak is)
-    (check-low body number (ltb 1 (check_count body)) refl some (inside_check body x joint number fails))
+    (check-low body number (ltb 1 (check_count body)) refl some (failing-inside body x joint number fails))
 low_cases body x joint proof weak (Some number) (Some gadget) some fails lies is =
     subst (IsLow body) (same_weak (weak_point body gadget) weak is) (point-low body gadget (inside_gadget body x joint proof gadget lies))
 

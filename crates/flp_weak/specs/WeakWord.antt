@@ -1,21 +1,13 @@
 -- The weak word of a proof: the query word that limits the proof of an encoding that fails, and how many of its values may be accepted. From the
--- checks and the gadgets up to the word.
-use Rattle.std.specs.Prelude.{ℕ, ◌+◌, ◌-◌, ◌*◌, nat_eq, nat_lt, ◌==◌, Bool, not, if◌then◌else◌, List, length, slice_index, Option, None, Some}
+-- gadgets up to the word.
+use Rattle.std.specs.Prelude.{ℕ, ◌+◌, ◌-◌, ◌*◌, nat_eq, nat_lt, Bool, not, if◌then◌else◌, List, length, Option, None, Some}
 use Rattle.std.specs.Cmp.Lexicographic.{pointwise}
 use Rattle.flp_syntax.specs.Tree.{Program}
-use Rattle.flp_meaning.specs.Circuit.{checks_of, direct}
+use Rattle.flp_meaning.specs.Circuit.{failing_check}
 use Rattle.flp_meaning.specs.Gadgets.{first_where, degree_of, size_of, check_count}
 use Rattle.flp_meaning.specs.Lengths.{check_words}
 use Rattle.flp_meaning.specs.Proof.{polynomial_in, formula_in}
 use Rattle.flp_weak.specs.declared.word.Weak.{Weak}
-
--- whether a check of the encoding is not 0
-abbrev pub check_fails : Program → (x joint : List ℕ) → ℕ → Bool
-check_fails body x joint check = not (slice_index (checks_of body (direct body x joint)) check == 0)
-
--- the least check that is not 0. Where there is none, the encoding is valid
-abbrev pub failing_check : Program → (x joint : List ℕ) → Option ℕ
-failing_check body x joint = first_where (check_fails body x joint) 0 (check_count body)
 
 -- whether a gadget lies: the polynomial that the proof has for it is not its formula at the wires, where the proof answers the calls
 abbrev pub gadget_lies : Program → (x joint proof : List ℕ) → ℕ → Bool

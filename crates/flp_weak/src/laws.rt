@@ -16,7 +16,7 @@ pub fn counted_soundness(plan: &Plan)
     ensures bounded { WeakIsBounded plan.now.circuit }
     ensures low { BoundIsLow plan.now.circuit }
 {
-    plans::is_within_limits(plan);
+    plans::is_bounded(plan);
 }
 
 /// Of several proofs of one record, each under joint words under which the encoding fails, at most the product
@@ -25,5 +25,5 @@ pub fn counted_soundness(plan: &Plan)
 pub fn few_choices(plan: &Plan)
     ensures { FewChoices plan.now.circuit }
 {
-    plans::is_within_limits(plan);
+    plans::is_bounded(plan);
 }

@@ -13,11 +13,8 @@
 //! Data via Fully Linear PCPs", CRYPTO 2019, counted word by word.
 #![tactic(auto)]
 
-mod checks;
 pub mod laws;
 mod lies;
-#[cfg(test)]
-mod tests;
 mod word;
 
 pub use word::{Weak, weak_word};

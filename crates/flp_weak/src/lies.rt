@@ -1,143 +1,101 @@
 //! Gadgets that lie: a proof has another polynomial for them than their formula at the wires.
-ghost use Rattle.std.specs.Prelude.{◌≡◌, ◌≢◌, ℕ, ◌*◌, ◌<◌, ◌≤◌, true, false, List, length, IfOk};
-ghost use Rattle.flp_poly.specs.Polynomial.{value_at};
-ghost use Rattle.flp_ntt.specs.TransformSize.{IsTransformSize};
-ghost use Rattle.flp_gadget.specs.KindTree.{arity_of, value_of};
-ghost use Rattle.flp_meaning.specs.Gadgets.{size_of, arity_of as inputs_of};
+ghost use Rattle.std.specs.Prelude.{◌≡◌, ℕ, ◌<◌, List, length, IfOk};
 ghost use Rattle.flp_meaning.specs.Proof.{answers_in};
-ghost use Rattle.flp_plan.specs.Counted.{lengths_of};
+ghost use Rattle.flp_plan.specs.Counted.{counted_lengths};
+ghost use Rattle.flp_plan.specs.Sizes.{sizes_of};
 ghost use Rattle.flp_plan.specs.View.{publics_of};
-ghost use Rattle.flp_query.specs.Rows.{values_of_columns};
 ghost use Rattle.flp_weak.specs.WeakWord as weak;
 
 use crate::Memory;
-use flp_field::{Fe, laws as words};
-use flp_gadget::{Gadget, Kind};
-use flp_plan::{Plan, laws};
-use flp_poly::eval;
-use flp_query::answers::write_answers;
-use flp_query::parts::{arity, domain_size, polynomial, seeds};
-use flp_query::reading::Reading;
-use flp_query::wires::{write_rows, write_values};
+use flp_field::Fe;
+use flp_plan::{Plan, Reading};
+use flp_prove::WireRoom;
+use flp_query::answers::{MOST_POINTS, write_answers};
+use flp_query::parts::{polynomial, seeds};
 use std::alloc::Global;
 
-/// The least gadget that lies, where the proof answers the calls. `publics` is what the plan's public values are
-/// under the joint words.
+/// The coefficients that a gadget has at most.
+const MOST_COEFFICIENTS: usize = 32761;
+
+/// The least gadget that lies, where the proof answers the calls.
 pub(crate) fn lying_gadget(
     alloc: Global,
     plan: &Plan,
-    publics: &[Fe],
     x: &[Fe],
+    joint: &[Fe],
     proof: &[Fe],
 ) -> Result<Option<u32>, Memory>
-    requires publics { length publics.now ≡ length plan.now.steps }
-    requires x { length x.now ≡ (lengths_of plan.now.circuit).meas }
-    requires proof { length proof.now ≡ (lengths_of plan.now.circuit).proof }
-    ensures { IfOk result (λ found. (joint : List ℕ) → publics.now ≡ publics_of plan.now joint → found ≡ weak.lying_gadget plan.now.circuit x.now joint proof.now) }
+    requires x { length x.now ≡ (counted_lengths plan.now.circuit).meas }
+    requires joint { length joint.now ≡ (counted_lengths plan.now.circuit).joint }
+    requires proof { length proof.now ≡ (counted_lengths plan.now.circuit).proof }
+    ensures { IfOk result (λ found. found ≡ weak.lying_gadget plan.now.circuit x.now joint.now proof.now) }
 {
+    let mut publics = vec![in alloc; Fe::ZERO; plan.publics_len() as usize]?;
     let mut answers = vec![in alloc; Fe::ZERO; plan.call_count() as usize]?;
-    write_answers(plan, proof, &mut answers);
+    let mut points = vec![in alloc; Fe::ZERO; MOST_POINTS]?;
+    let mut formula = vec![in alloc; Fe::ZERO; MOST_COEFFICIENTS]?;
+    let mut room = WireRoom::new(alloc, plan)?;
+    let publics: &mut [Fe] = &mut publics;
+    let answers: &mut [Fe] = &mut answers;
+    plan.publics(joint, publics);
+    write_answers(plan, proof, &mut points, answers);
     let reading = Reading {
         publics,
         x,
-        answers: &answers,
+        answers,
         unit: Fe::ONE,
     };
-    for gadget in 0..plan.gadgets() {
-        if gadget_lies(alloc, plan, gadget, &reading, proof)? {
-            return Ok(Some(gadget));
-        }
-    }
-    Ok(None)
+    let found = first_lying(plan, &reading, proof, &mut room, &mut formula);
+    Ok(found)
 }
 
-/// Whether this gadget lies.
-fn gadget_lies(
-    alloc: Global,
+/// The least gadget that lies, by what the proof answers. `formula` has room for the coefficients of any gadget.
+fn first_lying(
     plan: &Plan,
-    gadget: u32,
     reading: &Reading,
     proof: &[Fe],
-) -> Result<bool, Memory>
-    requires gadget { gadget < length plan.now.circuit.gadgets }
+    room: &mut WireRoom,
+    formula: &mut [Fe],
+) -> Option<u32>
     requires publics { length reading.now.publics.now ≡ length plan.now.steps }
     requires x { length reading.now.x.now ≡ plan.now.circuit.meas }
     requires answers { reading.now.answers.now ≡ answers_in plan.now.circuit proof.now }
     requires unit { reading.now.unit ≡ 1 }
-    requires proof { length proof.now ≡ (lengths_of plan.now.circuit).proof }
-    ensures { IfOk result (λ lies. (joint : List ℕ) → reading.now.publics.now ≡ publics_of plan.now joint → lies ≡ weak.gadget_lies plan.now.circuit reading.now.x.now joint proof.now gadget) }
+    requires proof { length proof.now ≡ (counted_lengths plan.now.circuit).proof }
+    requires made { room.old ≡ sizes_of plan.now }
+    requires formula { length formula.old ≡ 32761 }
+    ensures { (joint : List ℕ) → reading.now.publics.now ≡ publics_of plan.now joint → result ≡ weak.lying_gadget plan.now.circuit reading.now.x.now joint proof.now }
 {
-    let size = domain_size(plan, gadget);
-    let arity = arity(plan, gadget);
-    let mut rows = vec![in alloc; Fe::ZERO; size * arity]?;
-    let mut room = vec![in alloc; Fe::ZERO; size]?;
-    let mut inputs = vec![in alloc; Fe::ZERO; arity]?;
-    let lies = is_lying(
-        plan,
-        gadget,
-        reading,
-        proof,
-        &mut rows,
-        &mut room,
-        &mut inputs,
-    );
-    Ok(lies)
+    for gadget in 0..plan.gadgets() {
+        if gadget_lies(plan, gadget, reading, proof, room, formula) {
+            return Some(gadget);
+        }
+    }
+    None
 }
 
-/// Whether this gadget lies.
-///
-/// `rows` has a place for each wire at each point of the gadget's domain, `room` one for each point and `inputs`
-/// one for each wire. They hold anything afterwards.
-fn is_lying(
+/// Whether this gadget lies: the proof's polynomial for it is not its formula at the wires.
+fn gadget_lies(
     plan: &Plan,
     gadget: u32,
     reading: &Reading,
     proof: &[Fe],
-    rows: &mut [Fe],
-    room: &mut [Fe],
-    inputs: &mut [Fe],
+    room: &mut WireRoom,
+    formula: &mut [Fe],
 ) -> bool
     requires gadget { gadget < length plan.now.circuit.gadgets }
     requires publics { length reading.now.publics.now ≡ length plan.now.steps }
     requires x { length reading.now.x.now ≡ plan.now.circuit.meas }
     requires answers { reading.now.answers.now ≡ answers_in plan.now.circuit proof.now }
     requires unit { reading.now.unit ≡ 1 }
-    requires proof { length proof.now ≡ (lengths_of plan.now.circuit).proof }
-    requires rows { length rows.old ≡ size_of plan.now.circuit gadget * inputs_of plan.now.circuit gadget }
-    requires room { length room.old ≡ size_of plan.now.circuit gadget }
-    requires inputs { length inputs.old ≡ inputs_of plan.now.circuit gadget }
-    ensures { (joint : List ℕ) → reading.now.publics.now ≡ publics_of plan.now joint → result ≡ weak.gadget_lies plan.now.circuit reading.now.x.now joint proof.now gadget }
+    requires proof { length proof.now ≡ (counted_lengths plan.now.circuit).proof }
+    requires made { room.old ≡ sizes_of plan.now }
+    requires formula { length formula.old ≡ 32761 }
+    ensures lies { (joint : List ℕ) → reading.now.publics.now ≡ publics_of plan.now joint → result ≡ weak.gadget_lies plan.now.circuit reading.now.x.now joint proof.now gadget }
+    ensures again { room.new ≡ room.old }
 {
-    laws::is_within_limits(plan);
-    words::words(proof);
-    write_rows(plan, gadget, reading, seeds(plan, proof, gadget), rows);
-    differs(
-        plan.kind(gadget),
-        rows,
-        polynomial(plan, proof, gadget),
-        room,
-        inputs,
-    )
-}
-
-/// Whether the polynomial differs from the gadget at the wires that run through the columns of the rows. With as
-/// many coefficients, it does where the values differ at one of as many points, the words from 0 on.
-///
-/// `inputs` has a place for each wire and `room` for each row; both hold anything afterwards.
-fn differs(kind: &Kind, rows: &[Fe], polynomial: &[Fe], room: &mut [Fe], inputs: &mut [Fe]) -> bool
-    requires inputs { length inputs.old ≡ arity_of kind.now }
-    requires size { IsTransformSize (length room.old) }
-    requires rows { length rows.now ≡ length room.old * length inputs.old }
-    requires few { length polynomial.now ≤ 32761 }
-    ensures same { result ≡ false → (point : ℕ) → point < length polynomial.now → value_of kind.now (values_of_columns (length room.old) (length inputs.old) rows.now point) ≡ value_at polynomial.now point }
-    ensures other { result ≡ true → (point : ℕ) × (value_of kind.now (values_of_columns (length room.old) (length inputs.old) rows.now point) ≢ value_at polynomial.now point) }
-{
-    for index in 0..polynomial.len() {
-        let point = Fe::new(index as u64).unwrap();
-        write_values(rows, point, room, inputs);
-        if kind.eval(inputs) != eval(polynomial, point) {
-            return true;
-        }
-    }
-    false
+    let formula = &mut formula[..plan.coefficients(gadget)];
+    let seeds = seeds(plan, proof, gadget);
+    room.formula_at_wires(plan, gadget, reading, seeds, formula);
+    *polynomial(plan, proof, gadget) != *formula
 }

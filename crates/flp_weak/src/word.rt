@@ -2,19 +2,17 @@
 ghost use Rattle.std.specs.Prelude.{◌≡◌, ◌<◌, ◌↔◌, length, IfOk, IfSome, None};
 ghost use Rattle.flp_meaning.specs.Circuit.{IsValid};
 ghost use Rattle.flp_meaning.specs.Gadgets.{check_count};
-ghost use Rattle.flp_plan.specs.Counted.{lengths_of};
-ghost use Rattle.flp_plan.specs.View.{publics_of};
+ghost use Rattle.flp_plan.specs.Counted.{counted_lengths};
 ghost use Rattle.flp_weak.specs.AtMost.{Bounded};
 ghost use Rattle.flp_weak.specs.WeakWord as weak;
 
 use crate::Memory;
-use crate::checks::failing_check;
 use crate::laws::{counted_soundness, valid_has_none};
 use crate::lies::lying_gadget;
 use flp_field::{Fe, laws as words};
 use flp_gadget::Gadget;
 use flp_plan::{Plan, laws};
-use flp_query::parts::domain_size;
+use flp_prove::checks::Checker;
 use std::alloc::Global;
 
 /// A word of a query, and how many of its values are accepted at most while the other words are fixed.
@@ -42,9 +40,9 @@ pub fn weak_word(
     joint: &[Fe],
     proof: &[Fe],
 ) -> Result<Option<Weak>, Memory>
-    requires x { length x.now ≡ (lengths_of plan.now.circuit).meas }
-    requires joint { length joint.now ≡ (lengths_of plan.now.circuit).joint }
-    requires proof { length proof.now ≡ (lengths_of plan.now.circuit).proof }
+    requires x { length x.now ≡ (counted_lengths plan.now.circuit).meas }
+    requires joint { length joint.now ≡ (counted_lengths plan.now.circuit).joint }
+    requires proof { length proof.now ≡ (counted_lengths plan.now.circuit).proof }
     ensures exact { IfOk result (λ answer. answer ≡ weak.weak_of plan.now.circuit x.now joint.now proof.now) }
     ensures none { IfOk result (λ answer. (answer ≡ None) ↔ IsValid plan.now.circuit x.now joint.now) }
     ensures bounded { IfOk result (λ answer. IfSome answer (λ weak. Bounded plan.now.circuit x.now joint.now proof.now weak.word weak.bound)) }
@@ -52,32 +50,28 @@ pub fn weak_word(
     words::words(proof);
     counted_soundness(plan);
     valid_has_none(plan);
-    let mut publics = vec![in alloc; Fe::ZERO; plan.publics_len() as usize]?;
-    plan.publics(joint, &mut publics);
-    let answer = weakest(alloc, plan, &publics, x, joint, proof)?;
+    let answer = weakest(alloc, plan, x, joint, proof)?;
     Ok(answer)
 }
 
-/// The weak word, where `publics` is what the plan's public values are under the joint words.
+/// The weak word.
 fn weakest(
     alloc: Global,
     plan: &Plan,
-    publics: &[Fe],
     x: &[Fe],
     joint: &[Fe],
     proof: &[Fe],
 ) -> Result<Option<Weak>, Memory>
-    requires publics { publics.now ≡ publics_of plan.now joint.now }
-    requires steps { length publics.now ≡ length plan.now.steps }
-    requires x { length x.now ≡ (lengths_of plan.now.circuit).meas }
-    requires joint { length joint.now ≡ (lengths_of plan.now.circuit).joint }
-    requires proof { length proof.now ≡ (lengths_of plan.now.circuit).proof }
+    requires x { length x.now ≡ (counted_lengths plan.now.circuit).meas }
+    requires joint { length joint.now ≡ (counted_lengths plan.now.circuit).joint }
+    requires proof { length proof.now ≡ (counted_lengths plan.now.circuit).proof }
     ensures { IfOk result (λ answer. answer ≡ weak.weak_of plan.now.circuit x.now joint.now proof.now) }
 {
-    let Some(check) = failing_check(alloc, plan, publics, x, joint)? else {
+    let mut checker = Checker::new(alloc, plan)?;
+    let Some(check) = checker.failing_check(plan, x, joint) else {
         return Ok(None);
     };
-    match lying_gadget(alloc, plan, publics, x, proof)? {
+    match lying_gadget(alloc, plan, x, joint, proof)? {
         Some(gadget) => Ok(Some(weak_point(plan, gadget))),
         None => Ok(Some(weak_check(plan, check))),
     }
@@ -93,7 +87,7 @@ fn weak_point(plan: &Plan, gadget: u32) -> Weak
     let degree = plan.kind(gadget).degree() as u64;
     Weak {
         word: combining + gadget,
-        bound: degree * (domain_size(plan, gadget) as u64 - 1),
+        bound: degree * (plan.domain_size(gadget) as u64 - 1),
     }
 }
 

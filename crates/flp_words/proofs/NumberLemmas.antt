@@ -1,10 +1,10 @@
 -- From what `parse` promises of digits to a number in a range.
-use Rattle.std.proofs.Common.{◌≡◌, ℕ, ◌^◌, ◌≤◌, ◌<◌, ◌&&◌, List, length, Bool, true, false, Result, Err, Option, None, refl, arith, rules, ⊎_elim}
+use Rattle.std.proofs.Common.{◌≡◌, ℕ, ◌^◌, ◌≤◌, ◌<◌, List, length, true, false, Err, None, refl, arith, rules, ⊎_elim}
 use Rattle.std.specs.Prelude.{nat_le}
 use Rattle.std.specs.List.{list_all}
 use Rattle.std.specs.Char.{is_ascii_digit}
 use Rattle.std.specs.Str.Parse.{ParsesUnsigned, digits_value}
-use Rattle.std.proofs.lemmas.Bool.{cases_Bool, leb-true}
+use Rattle.std.proofs.lemmas.Bool.{and_parts, cases_Bool, leb-true}
 use Rattle.std.proofs.lemmas.Str.Parse.{IsDigitsTest, IsNumeralModel, numerals_by_value, parse_digits}
 use Rattle.flp_words.specs.Number.{has_number_form, number_in}
 
@@ -14,16 +14,12 @@ tells_digits = search rules
 numerals : IsNumeralModel (λ ds. list_all is_ascii_digit ds ≡ true) (digits_value 10)
 numerals = numerals_by_value _ tells_digits
 
-both : (a b : Bool) → (a && b) ≡ true → (a ≡ true) × (b ≡ true)
-both true b is = (refl, is)
-both false b is = cc
-
 -- digits that are refused write a number above every range
 pub number_in-refused : {E : Type 0} (least most : ℕ) (text : List ℕ) (e : E) → most < 2 ^ 32 → has_number_form text ≡ true
     → ParsesUnsigned 32 10 text (Err e) → None ≡ number_in least most text
 number_in-refused least most text e fits form failed =
-    let parts = both _ _ form in
-    let sizes = both _ _ parts.1 in
+    let parts = and_parts _ _ form in
+    let sizes = and_parts _ _ parts.1 in
     let some : 1 ≤ length text = leb-true 1 (length text) sizes.0 in
     let large = parse_digits numerals 32 text (Err e) failed parts.0 in
     ⊎_elim

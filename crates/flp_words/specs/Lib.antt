@@ -1,3 +1,7 @@
+-- From the words to a command.
+-- a text as a number in a range
 pub mod Number
-pub mod Commands
-pub mod Job
+-- what `clap` is told
+pub mod Apps
+-- the command of the words
+pub mod Command

@@ -1,5 +1,5 @@
 //! Numbers on the command line.
-ghost use Rattle.std.specs.Prelude.{◌≡◌};
+ghost use Rattle.std.specs.Prelude.{◌≡◌, ◌≤◌, IfSome};
 ghost use Rattle.std.specs.List.{list_all};
 ghost use Rattle.std.specs.Char.{is_ascii_digit};
 ghost use Rattle.flp_words.specs.Number.{has_number_form, number_in};
@@ -21,7 +21,8 @@ fn has_number_form(text: &str) -> bool
 /// The number that a text writes, where it has the form of one and lies in the range, both ends
 /// included.
 pub fn number_in(least: u32, most: u32, text: &str) -> Option<u32>
-    ensures { result ≡ number_in least most text.now }
+    ensures number { result ≡ number_in least most text.now }
+    ensures range { IfSome result (λ number. (least ≤ number) × (number ≤ most)) }
 {
     if !has_number_form(text) {
         return None;

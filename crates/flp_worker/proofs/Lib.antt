@@ -1,4 +1,6 @@
 -- The lemmas of one record.
+-- sums over the shares
+pub mod AddingLemmas
 -- lists that are filled from the front
 pub mod PrefixLemmas
 -- words of the field, and where parts stand

@@ -1,11 +1,10 @@
 -- Lists of one length after one another, and where the verifier of a share stands among all.
 use Rattle.std.proofs.Common.{ℕ, zero, suc, ◌≡◌, ◌+◌, ◌*◌, ◌<◌, ◌≤◌, List, ◌∷◌, length, map, refl, ap, ap₂, sym, subst, ◌∙◌, arith}
-use Rattle.std.specs.List.{range_with_len, flat_map, sum_by}
-use Rattle.std.proofs.Math.Nat.{suc-mul}
+use Rattle.std.specs.List.{range_with_len, flat_map}
 use Rattle.std.proofs.lemmas.List.{take_all}
-use Rattle.std.proofs.lemmas.List.Sums.{sum_by-cons}
 use Rattle.flp_field.specs.Sums.{parts_of}
-use Rattle.flp_field.proofs.ListSums.{parts_of-append}
+use Rattle.flp_field.proofs.ListParts.{parts_of-append}
+use Rattle.flp_field.proofs.ListSums.{sum-alike}
 use Rattle.flp_syntax.specs.Tree.{Program}
 use Rattle.flp_meaning.specs.Lengths.{lengths_of}
 use Rattle.flp_meaning.specs.Proof.{words_at}
@@ -17,14 +16,6 @@ use Rattle.flp_report.specs.declared.shape.Shape.{Shape}
 use Rattle.flp_worker.specs.Parts.{share_encoding, share_proof, joint_words, query_words}
 use Rattle.flp_worker.specs.Verdict.{verifier_of_share, verifiers_for, verifiers_of}
 use Rattle.flp_worker.proofs.PrefixLemmas.{part-fits}
-
--- so many times one number
-sum-alike : (n a count : ℕ) → sum_by (λ (k : ℕ). n) (range_with_len a count) ≡ count * n
-sum-alike n a zero = omega arith
-sum-alike n a (suc count) =
-    let more : sum_by (λ (k : ℕ). n) (range_with_len (a + 1) count) ≡ count * n = sum-alike n (a + 1) count in
-    sum_by-cons (λ (k : ℕ). n) a (range_with_len (a + 1) count)
-    ∙ ap (λ (m : ℕ). n + m) more ∙ omega (arith, suc-mul count n)
 
 -- lists of one length are the parts of what they are together
 pub parts-flat : (f : ℕ → List ℕ) (n a count : ℕ) → ((k : ℕ) → length (f k) ≡ n) → parts_of count n (flat_map f (range_with_len a count)) ≡ map f (range_with_len a count)

@@ -1,10 +1,7 @@
 -- Lists that are filled from the front, part by part.
-use Rattle.std.proofs.Common.{ℕ, suc, ◌≡◌, ◌+◌, ◌-◌, ◌*◌, ◌<◌, ◌≤◌, List, ◌++◌, length, take, drop, ap, ap₂, sym, ◌∙◌, arith}
+use Rattle.std.proofs.Common.{ℕ, suc, ◌≡◌, ◌+◌, ◌-◌, ◌*◌, ◌<◌, ◌≤◌, List, length, take, drop, ap, sym, ◌∙◌, arith}
 use borrow.Rule.Slice.PartMut.{put_mid}
 use Rattle.std.specs.List.{range_with_len, flat_map}
-use Rattle.std.proofs.lemmas.Slice.{take-put_mid}
-use Rattle.std.proofs.lemmas.List.{take_all}
-use Rattle.std.proofs.Math.Seq.{take-add}
 use Rattle.std.proofs.Math.Nat.{suc-mul, mul_assoc, mul-le-mul_right}
 use Rattle.flp_meaning.proofs.PartLemmas.{length-words_at}
 use Rattle.flp_query.proofs.VerifierLemmas.{parts-more}
@@ -33,22 +30,6 @@ length-part parts start size fits =
     let same : start + size - start ≡ size = omega arith in
     length-words_at start (start + size - start) parts (omega (arith, fits, same)) ∙ same
 
--- one part more of a whole that is written from the front
-pub prefix-more : (whole parts part : List ℕ) (k size n m : ℕ) → size ≡ n → length part ≡ n → k * n ≤ length parts
-    → take (k * n) parts ≡ take (k * n) whole → part ≡ take n (drop (k * n) whole)
-    → take ((k + 1) * n) (put_mid (k * size) m parts part) ≡ take ((k + 1) * n) whole
-prefix-more whole parts part k size n m same long there before own =
-    let more : (k + 1) * n ≡ k * n + n = one-more k n in
-    ap (λ (s : ℕ). take ((k + 1) * n) (put_mid (k * s) m parts part)) same
-    ∙ take-put_mid (k * n) m parts part ((k + 1) * n) (more ∙ ap (λ (l : ℕ). k * n + l) (sym long)) there
-    ∙ ap₂ (λ (a b : List ℕ). a ++ b) before own
-    ∙ sym (take-add (k * n) n whole)
-    ∙ ap (λ (l : ℕ). take l whole) (sym more)
-
--- all parts are written
-pub prefix-all : (whole parts : List ℕ) (n : ℕ) → length parts ≤ n → length whole ≤ n → take n parts ≡ take n whole → parts ≡ whole
-prefix-all whole parts n short few same = sym (take_all n parts short) ∙ same ∙ take_all n whole few
-
 -- one list more of lists of one length that are written one after another
 pub flat-more : (f : ℕ → List ℕ) (parts part : List ℕ) (k size n m : ℕ) → size ≡ n → length part ≡ n → k * n ≤ length parts
     → take (k * n) parts ≡ flat_map f (range_with_len 0 k) → part ≡ f k
@@ -57,13 +38,6 @@ flat-more f parts part k size n m same long there before own =
     let more : (k + 1) * n ≡ k * n + n = one-more k n in
     ap (λ (s : ℕ). take ((k + 1) * n) (put_mid (k * s) m parts part)) same
     ∙ parts-more f k (k * n) ((k + 1) * n) m parts part (more ∙ ap (λ (l : ℕ). k * n + l) (sym long)) there before own
-
--- all lists are written
-pub flat-all : (f : ℕ → List ℕ) (parts : List ℕ) (k count n : ℕ) → k ≡ count → length parts ≡ count * n
-    → take (k * n) parts ≡ flat_map f (range_with_len 0 k) → parts ≡ flat_map f (range_with_len 0 count)
-flat-all f parts k count n all size before =
-    let many : k * n ≡ count * n = ap (λ (m : ℕ). m * n) all in
-    sym (take_all (k * n) parts (omega (arith, many, size))) ∙ before ∙ ap (λ (m : ℕ). flat_map f (range_with_len 0 m)) all
 
 -- ---- parts of parts
 

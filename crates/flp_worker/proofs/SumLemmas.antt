@@ -11,7 +11,7 @@ use Rattle.flp_meaning.proofs.PartLemmas.{length-words_at}
 use Rattle.flp_query.specs.Unit.{share_unit}
 use Rattle.flp_query.specs.Laws.{Report, HasLengths, AreShares, sum_of_reports, verifier_with, VerifiersSumUp}
 use Rattle.flp_report.specs.declared.shape.Shape.{Shape}
-use Rattle.flp_report.specs.Shape.{part_of, words_of}
+use Rattle.flp_report.specs.Shape.{part_words, words_of}
 use Rattle.flp_worker.specs.Parts.{share_numbers, share_encoding, share_proof, joint_words, query_words, unshared_encoding, unshared_proof}
 use Rattle.flp_worker.specs.Verdict.{verifier_of_share, verifiers_for, gadget_inside, proof_holds}
 use Rattle.flp_worker.specs.Worker.{IsShapeOf}
@@ -31,23 +31,23 @@ reports_of shape words proof = map (report_of shape words proof) (share_numbers 
 
 -- the part of a share, and in it the encoding and each proof, stand within all words
 part-inside : (shape : Shape) (words : List ℕ) (share : ℕ) → length words ≡ words_of shape → share < shape.shares
-    → share * part_of shape + (shape.meas + shape.proofs * shape.proof) ≤ length words
+    → share * part_words shape + (shape.meas + shape.proofs * shape.proof) ≤ length words
 part-inside shape words share all below =
-    let fits : share * part_of shape + part_of shape ≤ shape.shares * part_of shape = part-fits share shape.shares (part_of shape) below in
+    let fits : share * part_words shape + part_words shape ≤ shape.shares * part_words shape = part-fits share shape.shares (part_words shape) below in
     omega (arith, fits, all)
 
 length-encoding : (shape : Shape) (words : List ℕ) (share : ℕ) → length words ≡ words_of shape → share < shape.shares
     → length (share_encoding shape words share) ≡ shape.meas
 length-encoding shape words share all below =
     let fits = part-inside shape words share all below in
-    length-words_at (share * part_of shape) shape.meas words (omega (arith, fits))
+    length-words_at (share * part_words shape) shape.meas words (omega (arith, fits))
 
 length-proof : (shape : Shape) (words : List ℕ) (proof share : ℕ) → length words ≡ words_of shape → share < shape.shares → proof < shape.proofs
     → length (share_proof shape words proof share) ≡ shape.proof
 length-proof shape words proof share all below inside =
     let fits = part-inside shape words share all below in
     let within : proof * shape.proof + shape.proof ≤ shape.proofs * shape.proof = part-fits proof shape.proofs shape.proof inside in
-    length-words_at (share * part_of shape + (shape.meas + proof * shape.proof)) shape.proof words (omega (arith, fits, within))
+    length-words_at (share * part_words shape + (shape.meas + proof * shape.proof)) shape.proof words (omega (arith, fits, within))
 
 has_lengths : (program : Program) (shape : Shape) (words : List ℕ) (proof share : ℕ) → IsShapeOf program shape → length words ≡ words_of shape
     → proof < shape.proofs → share < shape.shares → HasLengths program (report_of shape words proof share)

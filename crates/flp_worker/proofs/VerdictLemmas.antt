@@ -9,8 +9,8 @@ use Rattle.flp_plan.specs.View.{Compiled}
 use Rattle.flp_report.specs.declared.shape.Shape.{Shape}
 use Rattle.flp_report.specs.Record.{words_in}
 use Rattle.flp_report.specs.Words.{bad_word_in}
-use Rattle.flp_query.specs.declared.sizes.Sizes.{Sizes}
-use Rattle.flp_query.specs.Sizes.{sizes_of}
+use Rattle.flp_plan.specs.declared.sizes.Sizes.{Sizes}
+use Rattle.flp_plan.specs.Sizes.{sizes_of}
 use Rattle.flp_policy.specs.declared.verdict.Verdict.TheVariants.{InDomain, Malformed}
 use Rattle.flp_worker.specs.Parts.{unshared_encoding}
 use Rattle.flp_worker.specs.Verdict.{all_hold, first_inside, verifier_of_share, verifiers_of, verdict_if, verdict_by, verdict_of, outs_in, share_verifier}

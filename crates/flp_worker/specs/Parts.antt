@@ -4,7 +4,7 @@ use Rattle.std.specs.List.{range_with_len}
 use Rattle.flp_field.specs.Sums.{sum_of_lists}
 use Rattle.flp_meaning.specs.Proof.{words_at}
 use Rattle.flp_report.specs.declared.shape.Shape.{Shape}
-use Rattle.flp_report.specs.Shape.{part_of}
+use Rattle.flp_report.specs.Shape.{part_words}
 use Rattle.flp_report.specs.Record.{own_word}
 
 -- the numbers of the shares, and of the proofs
@@ -18,12 +18,12 @@ proof_numbers shape = range_with_len 0 shape.proofs
 
 -- of the encoding
 abbrev pub share_encoding : Shape → (words : List ℕ) → (share : ℕ) → List ℕ
-share_encoding shape words share = words_at (share * part_of shape) shape.meas words
+share_encoding shape words share = words_at (share * part_words shape) shape.meas words
 
 -- and of this proof
 abbrev pub share_proof : Shape → (words : List ℕ) → (proof share : ℕ) → List ℕ
 share_proof shape words proof share =
-    words_at (share * part_of shape + (shape.meas + proof * shape.proof)) shape.proof words
+    words_at (share * part_words shape + (shape.meas + proof * shape.proof)) shape.proof words
 
 -- ---- what no share has: the joint words and the query words of a proof
 

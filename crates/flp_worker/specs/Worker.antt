@@ -5,8 +5,8 @@ use Rattle.flp_meaning.specs.Lengths.{lengths_of}
 use Rattle.flp_meaning.specs.Proof.{words_at}
 use Rattle.flp_plan.specs.View.{Compiled}
 use Rattle.flp_report.specs.declared.shape.Shape.{Shape}
-use Rattle.flp_query.specs.declared.sizes.Sizes.{Sizes}
-use Rattle.flp_query.specs.Sizes.{sizes_of}
+use Rattle.flp_plan.specs.declared.sizes.Sizes.{Sizes}
+use Rattle.flp_plan.specs.Sizes.{sizes_of}
 
 -- a shape for the records of a circuit: its words are those of the circuit, in 2 to 16 shares with 1 to 16 proofs
 pub record IsShapeOf (program : Program) (shape : Shape) : Type 0 where

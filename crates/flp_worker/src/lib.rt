@@ -5,12 +5,13 @@
 //! the unshared encoding and the unshared proofs, as `specs/Verdict.antt` defines it. After that the worker lends
 //! the outs of the unshared encoding, and the verifier of each share for each proof.
 //!
+//! [`Words`] are those of one record, with their parts and the sums over the shares.
+//!
 //! [`Worker::new`] alone takes memory.
 //!
 //! The way of a record is after that of Prio3 in the VDAF draft of the IETF, with any number of proofs.
 #![tactic(auto)]
 
-mod load;
 mod row;
 mod verify;
 mod words;
@@ -18,7 +19,5 @@ mod worker;
 
 /// Want of memory.
 pub use std::alloc::AllocError as Memory;
+pub use words::Words;
 pub use worker::Worker;
-
-#[cfg(test)]
-mod tests;

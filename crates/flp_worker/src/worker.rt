@@ -6,14 +6,13 @@ ghost use Rattle.flp_worker.specs.Verdict.{verdict_of, outs_in, share_verifier};
 ghost use Rattle.flp_worker.specs.Worker.{IsShapeOf, IsMadeFor, verifier_kept};
 
 use crate::Memory;
-use crate::load::load_record;
 use crate::row::write_row;
 use crate::verify::{Inside, verify_proofs};
 use crate::words::Words;
 use flp_field::Fe;
 use flp_plan::{Plan, laws};
 use flp_policy::Verdict;
-use flp_query::Scratch;
+use flp_query::Challenge;
 use flp_report::{Record, Shape};
 use std::alloc::Global;
 use std::marker::Model;
@@ -25,7 +24,8 @@ use std::marker::Model;
 #[derive(Drop)]
 pub struct Worker {
     shape: Shape,
-    scratch: Scratch,
+    /// What the shares of the proof that was looked at last have in common.
+    challenge: Challenge,
     /// The words of a record.
     words: Vec<Fe>,
     /// For each proof, the verifier of each share.
@@ -34,8 +34,6 @@ pub struct Worker {
     sum: Vec<Fe>,
     /// The unshared encoding.
     encoding: Vec<Fe>,
-    /// The public values of the proof that was looked at last.
-    publics: Vec<Fe>,
     row: Vec<Fe>,
 }
 
@@ -46,9 +44,9 @@ impl Model for Worker {
 
     ghost Value = { Working };
 
-    ghost view = { λ worker. record { shape = worker.shape; sizes = worker.scratch; row = worker.row.items; verifiers = worker.verifiers.items } };
+    ghost view = { λ worker. record { shape = worker.shape; sizes = worker.challenge.sizes; row = worker.row.items; verifiers = worker.verifiers.items } };
 
-    ghost invariant = { λ worker. HasRoom worker.shape worker.scratch (vec_len worker.words) (vec_len worker.verifiers) (vec_len worker.sum) (vec_len worker.encoding) (vec_len worker.publics) (vec_len worker.row) };
+    ghost invariant = { λ worker. HasRoom worker.shape worker.challenge.sizes (vec_len worker.words) (vec_len worker.verifiers) (vec_len worker.sum) (vec_len worker.encoding) (vec_len worker.row) };
 }
 
 impl Worker {
@@ -62,12 +60,11 @@ impl Worker {
         let verifier = lengths.verifier as usize;
         Ok(Worker {
             shape: *shape,
-            scratch: Scratch::new(alloc, plan)?,
+            challenge: Challenge::new(alloc, plan)?,
             words: vec![in alloc; Fe::ZERO; shape.words() as usize]?,
             verifiers: vec![in alloc; Fe::ZERO; pairs * verifier]?,
             sum: vec![in alloc; Fe::ZERO; verifier]?,
             encoding: vec![in alloc; Fe::ZERO; lengths.meas as usize]?,
-            publics: vec![in alloc; Fe::ZERO; plan.publics_len() as usize]?,
             row: vec![in alloc; Fe::ZERO; lengths.outs as usize]?,
         })
     }
@@ -87,10 +84,9 @@ impl Worker {
         ensures verifiers { (result ≡ AcceptedVerdict) ⊎ (result ≡ RejectedVerdict) → (share proof : ℕ) → share < shape.now.shares → proof < shape.now.proofs → verifier_kept self.new share proof ≡ share_verifier plan.now.circuit shape.now (record_of given.now) share proof }
         ensures again { IsMadeFor plan.now shape.now self.new }
     {
-        if let Some(word) = given.bad_word() {
+        if let Err(word) = given.load(&mut self.words) {
             return Verdict::Malformed { word };
         }
-        load_record(shape, given, &mut self.words);
         let words = Words {
             shape: *shape,
             all: &self.words,
@@ -98,8 +94,7 @@ impl Worker {
         match verify_proofs(
             plan,
             &words,
-            &mut self.scratch,
-            &mut self.publics,
+            &mut self.challenge,
             &mut self.verifiers,
             &mut self.sum,
         ) {
@@ -109,7 +104,7 @@ impl Worker {
                 write_row(
                     plan,
                     &words,
-                    &self.publics,
+                    self.challenge.publics(),
                     &mut self.encoding,
                     &mut self.row,
                 );

@@ -1,6 +1,6 @@
 use Rattle.std.proofs.Common.{◌≡◌, drop}
-use Rattle.flp_check.specs.Flaws.{has_name}
-use Rattle.flp_check.specs.Held.{names_of}
+use Rattle.flp_syntax.specs.Scope.{has_name}
+use Rattle.flp_syntax.specs.View.{names_of}
 use Rattle.flp_check.proofs.scope.has_name.Given as goal
 
 -- the name is none of those so far

@@ -2,8 +2,8 @@ use Rattle.std.proofs.Common.{◌≡◌, drop, map}
 use Rattle.flp_syntax.specs.Tree.{index_items, indices}
 use Rattle.flp_syntax.specs.Scope.{sum_from, product_from}
 use Rattle.flp_syntax.specs.View.{index_of, index_item_of}
-use Rattle.flp_emit.specs.Fitting.{SumFits, ProductFits}
-use Rattle.flp_emit.specs.Scopes.{scope_of}
+use Rattle.flp_syntax.specs.Fits.{SumFits, ProductFits}
+use Rattle.flp_syntax.specs.View.{scope_of}
 use Rattle.flp_emit.proofs.index.+index.Given as goal
 
 -- the items from here on fit behind the sum so far, and lead to the sum of all

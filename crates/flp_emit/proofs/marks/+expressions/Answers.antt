@@ -4,7 +4,7 @@ use Rattle.flp_syntax.specs.Tree.{items, trees, arguments}
 use Rattle.flp_syntax.specs.View.{tree_of, item_of, arg_of, arg_of_Each, tree_of_Number, tree_of_Var, tree_of_Joint, tree_of_Meas, tree_of_MeasOrZero}
 use Rattle.flp_emit.specs.Marks.{marks_of, marks_of_argument, item_marks, factor_marks, argument_marks}
 use Rattle.flp_emit.proofs.Marking.{marks_next, part_made}
-use Rattle.flp_emit.proofs.Rests.{rest_items, rest_trees, rest_args}
+use Rattle.flp_syntax.proofs.Rests.{rest_items, rest_trees, rest_args}
 use Rattle.flp_emit.proofs.marks.+expressions.Goals as goal
 
 pub mark_items-loop-item-preserved : goal.mark_items-loop-item-preserved

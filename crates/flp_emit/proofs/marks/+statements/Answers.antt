@@ -4,7 +4,7 @@ use Rattle.flp_syntax.specs.Tree.{statements}
 use Rattle.flp_syntax.specs.View.{statement_of, statement_of_Each}
 use Rattle.flp_emit.specs.Marks.{marks_of_statement, statement_marks}
 use Rattle.flp_emit.proofs.Marking.{marks_next, part_made}
-use Rattle.flp_emit.proofs.Rests.{rest_statements}
+use Rattle.flp_syntax.proofs.Rests.{rest_statements}
 use Rattle.flp_emit.proofs.marks.+statements.Goals as goal
 
 pub mark_statements-loop-stmt-preserved : goal.mark_statements-loop-stmt-preserved

@@ -3,9 +3,11 @@ use Rattle.std.proofs.lemmas.List.{drop_all}
 use Rattle.flp_syntax.specs.declared.syntax.Item.{the_lemmas}
 use Rattle.flp_syntax.specs.Tree.{items, trees}
 use Rattle.flp_syntax.specs.View.{tree_of, item_of, tree_of_Joint, tree_of_Sum, tree_of_Add, tree_of_Mul, tree_of_Pow}
-use Rattle.flp_meaning.specs.Meaning.{signed}
-use Rattle.flp_emit.proofs.Rests.{rest_items, rest_trees}
-use Rattle.flp_emit.proofs.Parts.{remains_more, remains_none, makes_stands, makes_changed, then_grows, sums_regroup, products_regroup, turns_none, turns_next, first_item_public, rest_items_public, rest_public}
+use Rattle.flp_meaning.specs.Meaning.{value_with_sign}
+use Rattle.flp_syntax.proofs.Rests.{rest_items, rest_trees}
+use Rattle.flp_syntax.proofs.Turns.{turns_none, turns_next}
+use Rattle.flp_syntax.proofs.Publics.{first_item_public, rest_items_public, rest_public}
+use Rattle.flp_emit.proofs.Parts.{remains_more, remains_none, makes_stands, makes_changed, then_grows, sums_regroup, products_regroup}
 use Rattle.flp_emit.proofs.public.+public.Goals as goal
 
 -- ---- products
@@ -55,7 +57,7 @@ public_sum-loop-item-preserved t c = record {
   left =
       remains_more sums_regroup
       (rw (rest_items _ _ c.item-item.result c.loop-item-test.true c.item-item.is) at c.loop-item.invariant.left)
-      (makes_changed (signed c.item-item.result.minus) c.in_ok-value.ensures c.in_ok-step.ensures) c.in_ok-added.ensures;
+      (makes_changed (value_with_sign c.item-item.result.minus) c.in_ok-value.ensures c.in_ok-step.ensures) c.in_ok-added.ensures;
 }
 
 pub public_sum-returns : goal.public_sum-returns
@@ -71,7 +73,7 @@ public_turns-loop-turn-preserved t c = record {
   left =
       remains_more sums_regroup
       (rw (turns_next _ _ c.loop-turn-test.true) at c.loop-turn.invariant.left)
-      (rw (c.deref.ensures.value, c.in_ok-within.ensures) at c.in_ok-step.ensures) c.in_ok-added.ensures;
+      (rw (c.deref.ensures.value, c.in_ok-enter.ensures) at c.in_ok-step.ensures) c.in_ok-added.ensures;
 }
 
 pub public_turns-returns : goal.public_turns-returns
@@ -88,7 +90,7 @@ public_step-public_turns-requires t c = (
     c.requires.joint,
     (
       rw c.deref.ensures (rw (c.in-Sum.is, tree_of_Sum) at c.requires.public),
-      (rw (c.turns_of-over.ensures.from, c.turns_of-over.ensures.to, c.turns_of-over.ensures.name, c.deref.ensures)
+      (rw (c.turns_of.ensures.from, c.turns_of.ensures.to, c.turns_of.ensures.name, c.deref.ensures)
           (rw (c.in-Sum.is, tree_of_Sum) at c.requires.fits).turns),
     ),
   ),
@@ -113,7 +115,7 @@ public_step-public_product-requires t c = (
     c.requires.joint,
     (
       rw c.as_slice-in-Mul.ensures (rw (c.in-Mul.is, tree_of_Mul) at c.requires.public),
-      (rw c.as_slice-in-Mul.ensures (rw (c.in-Mul.is, tree_of_Mul) at c.requires.fits).1),
+      (rw c.as_slice-in-Mul.ensures (rw (c.in-Mul.is, tree_of_Mul) at c.requires.fits)),
     ),
   ),
 )
@@ -125,7 +127,7 @@ public_step-public_step-requires t c = (
     c.requires.joint,
     (
       rw c.deref-in-Pow.ensures (rw (c.in-Pow.is, tree_of_Pow) at c.requires.public),
-      (rw c.deref-in-Pow.ensures (rw (c.in-Pow.is, tree_of_Pow) at c.requires.fits).1),
+      (rw c.deref-in-Pow.ensures (rw (c.in-Pow.is, tree_of_Pow) at c.requires.fits).0),
     ),
   ),
 )
@@ -136,7 +138,7 @@ public_step-returns-in-Joint t c =
 
 pub public_step-returns-in-Sum : goal.public_step-returns-in-Sum
 public_step-returns-in-Sum t c =
-    rw (c.in-Sum.is, tree_of_Sum, ← c.turns_of-over.ensures.from, ← c.turns_of-over.ensures.to, ← c.turns_of-over.ensures.name, ← c.deref.ensures)
+    rw (c.in-Sum.is, tree_of_Sum, ← c.turns_of.ensures.from, ← c.turns_of.ensures.to, ← c.turns_of.ensures.name, ← c.deref.ensures)
     c.public_turns.ensures
 
 pub public_step-returns-in-Add : goal.public_step-returns-in-Add

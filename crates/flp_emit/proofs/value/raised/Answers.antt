@@ -5,4 +5,4 @@ use Rattle.flp_emit.proofs.value.raised.Goals as goal
 pub returns : goal.returns
 returns c =
     makes_of_one (λ n. n ^ c.args.exponent) _ _ _ c.args.base c.requires c.in_ok-step.ensures.grows
-    (rw c.from.ensures at c.in_ok-step.ensures.value)
+    c.in_ok-step.ensures.value

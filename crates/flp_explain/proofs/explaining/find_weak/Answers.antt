@@ -1,21 +1,22 @@
-use Rattle.std.proofs.Common.{ℕ, List}
-use Rattle.flp_report.specs.Record.{record_of, words_in}
-use Rattle.flp_explain.proofs.UnsharedLemmas.{length-whole, encoding-is, proof-is, weak-found}
+use Rattle.std.proofs.Common.{ℕ, ◌∙◌, List, length, map, ap, ap₂}
+use Rattle.flp_field.proofs.ListSums.{length-sum_of_lists}
+use Rattle.flp_weak.specs.WeakWord.{weak_of}
+use Rattle.flp_worker.specs.Parts.{share_numbers, share_encoding, joint_words, unshared_encoding}
+use Rattle.flp_worker.specs.Words.{shape_held, words_held}
 use Rattle.flp_explain.proofs.explaining.find_weak.Goals as goal
 
-pub encoding_in-requires : goal.encoding_in-requires
-encoding_in-requires c =
-    length-whole c.args.shape.now (words_in c.args.shape.now (record_of c.args.given.now)) c.args.whole.now c.requires.whole
-
-pub proof_in-requires-clause-whole : goal.proof_in-requires-clause-whole
-proof_in-requires-clause-whole c =
-    length-whole c.args.shape.now (words_in c.args.shape.now (record_of c.args.given.now)) c.args.whole.now c.requires.whole
+-- how long the unshared encoding is
+pub weak_word-requires-clause-x : goal.weak_word-requires-clause-x
+weak_word-requires-clause-x c =
+    let shape = shape_held c.args.words.now in
+    ap length c.requires.encoding
+    ∙ (length-sum_of_lists shape.meas (map (share_encoding shape (words_held c.args.words.now)) (share_numbers shape)) ∙ c.requires.fits.meas)
 
 pub returns : goal.returns
 returns c =
-    let words : List ℕ = words_in c.args.shape.now (record_of c.args.given.now) in
-    weak-found c.args.plan.now.circuit c.args.shape.now (record_of c.args.given.now)
-    c.encoding_in.result.now c.load_joint.new.joint c.proof_in.result.now c.args.proof c.in_ok-found.found c.in_ok-found.ensures.exact
-    (encoding-is c.args.shape.now words c.args.whole.now c.encoding_in.result.now c.requires.whole c.encoding_in.ensures.words)
-    c.load_joint.ensures
-    (proof-is c.args.shape.now words c.args.whole.now c.proof_in.result.now c.args.proof c.requires.proof c.requires.whole c.proof_in.ensures.words)
+    let program = c.args.plan.now.circuit in
+    let shape = shape_held c.args.words.now in
+    let words = words_held c.args.words.now in
+    c.in_ok-found.ensures.exact
+    ∙ ap₂ (λ (x j : List ℕ). weak_of program x j c.write_proof.new.out) c.requires.encoding c.joint.ensures.words
+    ∙ ap (λ (p : List ℕ). weak_of program (unshared_encoding shape words) (joint_words shape words c.args.proof) p) c.write_proof.ensures

@@ -1,6 +1,7 @@
-use Rattle.std.proofs.Common.{◌≡◌, ℕ, ◌+◌, ◌-◌, ◌≤◌, List, ◌++◌, rules, arith, length, take, drop, sym, ap, ◌∙◌, subst, append_assoc, take-append-drop}
+use Rattle.std.proofs.Common.{◌≡◌, ℕ, ◌+◌, ◌-◌, ◌≤◌, List, ◌++◌, rules, arith, length, take, drop, refl, sym, ap, ◌∙◌, subst, append_assoc, take-append-drop}
 use Rattle.std.proofs.lemmas.Grind.{common_steps}
 use Rattle.std.proofs.lemmas.List.{take_rest}
+use Rattle.std.specs.Io.KnownBytes.{Appends}
 use Rattle.std.proofs.KnownBytes.{Appends-trans, Appends-kept}
 use Rattle.flp_io.specs.Writes.{HasRoom, Spends}
 use Rattle.flp_io.proofs.WriteLemmas.{TakesPrefix-front, HasRoom-rest, Spends-trans}
@@ -17,9 +18,12 @@ length-left rest n h = grind (arith, common_steps)
 length-done : (done rest : List ℕ) (n : ℕ) → n ≤ length rest → length done + n ≡ length (done ++ take n rest)
 length-done done rest n h = grind (arith, common_steps)
 
+done-all : (all done rest : List ℕ) → all ≡ done ++ rest → length rest ≡ 0 → done ≡ all
+done-all all done rest e h = grind (arith, common_steps)
+
 pub loop-rest-preserved : goal.loop-rest-preserved
 loop-rest-preserved g c =
-    let (done, split, taken, spared, later) = c.loop-rest.invariant in
+    let (done, split, taken, spared, later, ready) = c.loop-rest.invariant in
     let rest = c.loop-rest.rest.now in
     let n = c.in_ok-count.count in
     let within : n ≤ length rest = c.in_ok-count.ensures.bound in (
@@ -32,14 +36,31 @@ loop-rest-preserved g c =
             subst (Spends _ _) (length-done done rest n within) (Spends-trans _ _ _ _ n spent now),
           ),
       search rules,
+      search rules,
     )
 
-pub returns-in_err-count-clause-front : goal.returns-in_err-count-clause-front
-returns-in_err-count-clause-front g c =
-    let (done, split, taken, spared, later) = c.loop-rest.invariant in
-    TakesPrefix-front _ _ done c.loop-rest.rest.now _ (Appends-kept _ _ _ _ taken c.in_err-count.ensures.bytes) split
+pub returns-in_err-count : goal.returns-in_err-count
+returns-in_err-count g c =
+    let (done, split, taken, spared, later, ready) = c.loop-rest.invariant in
+    record {
+      sink = record {
+        whole = search rules;
+        front = TakesPrefix-front _ _ done c.loop-rest.rest.now _ (Appends-kept _ _ _ _ taken c.in_err-count.ensures.bytes) split;
+        room = search rules;
+        uses = search rules;
+      };
+    }
 
-pub returns-clause-front : goal.returns-clause-front
-returns-clause-front g c =
-    let (done, split, taken, spared, later) = c.loop-rest.invariant in
-    TakesPrefix-front _ _ done c.loop-rest.rest.now _ taken split
+pub returns : goal.returns
+returns g c =
+    let (done, split, taken, spared, later, ready) = c.loop-rest.invariant in
+    let none : length c.loop-rest.rest.now ≡ 0 = search rules in
+    let all : done ≡ c.args.piece.now = done-all _ done _ split none in
+    record {
+      sink = record {
+        whole = subst (Appends _ _) all taken;
+        front = TakesPrefix-front _ _ done c.loop-rest.rest.now _ taken split;
+        room = λ h. (refl, subst (λ (l : List ℕ). Spends (g.K.Sink.spare c.args.sink.now) (g.K.Sink.spare c.loop-rest.sink) (length l)) all (spared h).1);
+        uses = search rules;
+      };
+    }

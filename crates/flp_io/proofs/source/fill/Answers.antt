@@ -18,9 +18,10 @@ take-put_mid at room n buf read within fits =
 
 pub loop-filled-preserved : goal.loop-filled-preserved
 loop-filled-preserved g c =
-    let (within, consumed, later) = c.loop-filled.invariant in
+    let (within, consumed, later, ready) = c.loop-filled.invariant in
     let joined = take-put_mid _ _ _ _ _ within c.in_ok-count.ensures.bound.0 in (
       search rules,
       subst (Consumes _ _) (sym joined) (Consumes-trans _ _ _ _ _ consumed c.in_ok-count.ensures.bytes.0),
+      search rules,
       search rules,
     )

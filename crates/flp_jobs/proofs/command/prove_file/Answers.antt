@@ -1,22 +1,29 @@
 use Rattle.std.proofs.Common.{ℕ, Option, List}
 use Rattle.std.specs.Prelude.{IfSome}
-use Rattle.flp_batch.proofs.OutcomeLemmas.{OnOk-map}
-use Rattle.flp_report.specs.JobReader.{source_of}
+use Rattle.std.proofs.lemmas.Result.{on_ok_weaker}
+use Rattle.flp_report.specs.Reader.{source_of}
 use Rattle.flp_jobs.specs.declared.fault.ProveFault.{ProveFault}
 use Rattle.flp_jobs.specs.Reading.{Reads}
 use Rattle.flp_jobs.specs.Reply.{IsRefusal}
-use Rattle.flp_jobs.proofs.CommandLemmas.{refused-map}
+use Rattle.flp_jobs.proofs.CommandLemmas.{refused-weaker}
 use Rattle.flp_jobs.proofs.command.prove_file.Goals as goal
 
 pub returns-in-Ok-clause-done : goal.returns-in-Ok-clause-done
-returns-in-Ok-clause-done g c = OnOk-map c.prove_jobs.result c.prove_jobs.ensures.done (λ all. all _ _ c.in-Ok.ensures.reads)
+returns-in-Ok-clause-done g c = on_ok_weaker c.prove_jobs.result (λ all. all _ _ c.in-Ok.ensures.reads) c.prove_jobs.ensures.done
 
 pub returns-in-Ok-clause-stopped : goal.returns-in-Ok-clause-stopped
 returns-in-Ok-clause-stopped g c = λ is. c.prove_jobs.ensures.stopped is _ _ c.in-Ok.ensures.reads
 
-pub returns-in-Ok-clause-fault : goal.returns-in-Ok-clause-fault
-returns-in-Ok-clause-fault g c =
+pub returns-in-Ok-clause-ends : goal.returns-in-Ok-clause-ends
+returns-in-Ok-clause-ends g c =
     let whole = g.S.Source.left (source_of c.args.reader.now) in
     let P : ProveFault → Type 0 = λ f. (left left' : Option (List ℕ)) → Reads left left' c.in-Ok.file → IfSome left (λ bytes. IsRefusal bytes f) in
     let Q : ProveFault → Type 0 = λ f. IfSome whole (λ bytes. IsRefusal bytes f) in
-    refused-map P Q c.prove_jobs.result (λ f said. said whole _ c.in-Ok.ensures.reads) c.prove_jobs.ensures.fault
+    record {
+      fault = refused-weaker P Q c.prove_jobs.result (λ f said. said whole _ c.in-Ok.ensures.reads) c.prove_jobs.ensures.fault;
+      few = c.read_file.ensures.source.bytes;
+      read = λ is. absurd (c.prove_jobs.ensures.no_read is);
+      write = c.prove_jobs.ensures.write;
+      later_in = c.read_file.ensures.source.uses.later;
+      later_out = c.prove_jobs.ensures.later;
+    }

@@ -1,5 +1,6 @@
 use Rattle.std.proofs.Common.{map}
 use Rattle.std.specs.List.{concat}
+use Rattle.flp_io.proofs.UsesLemmas.{Uses-after}
 use Rattle.flp_io.proofs.WriteLemmas.{TakesPrefix-more, TakesPrefix-after}
 use Rattle.flp_report.specs.JobParts.{jobs_in}
 use Rattle.flp_report.specs.Layout.{head_bytes}
@@ -12,12 +13,10 @@ returns-in-Err-clause-front g c =
     let file = c.args.file.now in
     TakesPrefix-more _ _ (head_bytes file.header) (concat (map (record_made (setting_of file)) (jobs_in file.jobs))) c.write_head.ensures.front
 
-pub returns-in-Ok-write_records-clause-front : goal.returns-in-Ok-write_records-clause-front
-returns-in-Ok-write_records-clause-front g c =
+pub returns-clause-front : goal.returns-clause-front
+returns-clause-front g c =
     let file = c.args.file.now in
-    TakesPrefix-after _ _ _ (head_bytes file.header) (concat (map (record_made (setting_of file)) (jobs_in file.jobs))) c.in-Ok.ensures.bytes c.write_records.ensures.front
+    TakesPrefix-after _ _ _ (head_bytes file.header) (concat (map (record_made (setting_of file)) (jobs_in file.jobs))) c.in-Ok.ensures.whole c.write_records.ensures.front
 
-pub returns-in-Err-write_records-clause-front : goal.returns-in-Err-write_records-clause-front
-returns-in-Err-write_records-clause-front g c =
-    let file = c.args.file.now in
-    TakesPrefix-after _ _ _ (head_bytes file.header) (concat (map (record_made (setting_of file)) (jobs_in file.jobs))) c.in-Ok.ensures.bytes c.write_records.ensures.front
+pub returns-clause-uses : goal.returns-clause-uses
+returns-clause-uses g c = Uses-after c.in-Ok.ensures.uses c.write_records.ensures.uses

@@ -1,7 +1,8 @@
-use Rattle.std.proofs.Common.{◌≡◌, ℕ, ◌≤◌, List, length, map, ap₂, subst, ◌∙◌, arith}
+use Rattle.std.proofs.Common.{◌≡◌, ℕ, ◌≤◌, List, length, map, None, refl, ap₂, subst, ◌∙◌, arith}
 use Rattle.std.specs.List.{concat}
 use Rattle.std.specs.Io.KnownBytes.{Appends}
 use Rattle.flp_io.specs.Writes.{TakesPrefix}
+use Rattle.flp_io.proofs.UsesLemmas.{Uses-after, Uses-as}
 use Rattle.flp_io.proofs.WriteLemmas.{TakesPrefix-whole}
 use Rattle.flp_report.specs.JobParts.{jobs_in, job_of}
 use Rattle.flp_report.specs.Layout.{record_bytes}
@@ -25,22 +26,28 @@ pub returns-in-Err-clause-front : goal.returns-in-Err-clause-front
 returns-in-Err-clause-front g c =
     let file = c.args.file.now in
     let job = job_of c.job_at-job.result in
-    let made : record_bytes c.nonce.result.now c.words.result.now ≡ record_made (setting_of file) job =
-    ap₂ (λ (nonce words : List ℕ). record_bytes nonce words) c.nonce.ensures (c.words.ensures ∙ c.make.ensures.words) in
+    let made : record_bytes c.nonce.result.now None c.words.result.now ≡ record_made (setting_of file) job =
+    ap₂ (λ (nonce words : List ℕ). record_bytes nonce None words) c.nonce.ensures (c.words.ensures ∙ c.make.ensures.words) in
     TakesPrefix-made (record_made (setting_of file)) (jobs_in file.jobs) _ _ _ c.loop-number.number job c.job_at-job.ensures.numbered c.loop-number.invariant.bytes
     (subst (λ (l : List ℕ). TakesPrefix (g.K.Sink.taken c.loop-number.output) (g.K.Sink.taken c.write_record.new.sink) l) made c.write_record.ensures.front)
+
+pub returns-in-Err-clause-uses : goal.returns-in-Err-clause-uses
+returns-in-Err-clause-uses g c = Uses-after c.loop-number.invariant.uses c.in-Err.ensures.uses
+
+pub returns-clause-uses : goal.returns-clause-uses
+returns-clause-uses g c = Uses-as c.loop-number.invariant.uses (λ is. let no : ⊥ = cc in absurd no) (λ ok. tt)
 
 pub loop-number-preserved : goal.loop-number-preserved
 loop-number-preserved g c =
     let file = c.args.file.now in
     let job = job_of c.job_at-job.result in
-    let made : record_bytes c.nonce.result.now c.words.result.now ≡ record_made (setting_of file) job =
-    ap₂ (λ (nonce words : List ℕ). record_bytes nonce words) c.nonce.ensures (c.words.ensures ∙ c.make.ensures.words) in
+    let made : record_bytes c.nonce.result.now None c.words.result.now ≡ record_made (setting_of file) job =
+    ap₂ (λ (nonce words : List ℕ). record_bytes nonce None words) c.nonce.ensures (c.words.ensures ∙ c.make.ensures.words) in
     record {
       made = c.make.ensures.again;
       bytes = Appends-more (record_made (setting_of file)) (jobs_in file.jobs) _ _ _ c.loop-number.number job c.job_at-job.ensures.numbered c.loop-number.invariant.bytes
-          (subst (λ (l : List ℕ). Appends (g.K.Sink.taken c.loop-number.output) (g.K.Sink.taken c.write_record.new.sink) l) made c.in-Ok.ensures.bytes);
-      later = omega (arith, c.loop-number.invariant.later, c.write_record.ensures.cause.later);
+          (subst (λ (l : List ℕ). Appends (g.K.Sink.taken c.loop-number.output) (g.K.Sink.taken c.write_record.new.sink) l) made c.in-Ok.ensures.whole);
+      uses = Uses-after c.loop-number.invariant.uses (Uses-as c.in-Ok.ensures.uses (λ no. absurd no) (λ on. refl));
     }
 
 pub returns-clause-bytes : goal.returns-clause-bytes

@@ -1,6 +1,6 @@
 use Rattle.std.proofs.Common.{ℕ, List, refl, sym, ap₂, ◌∙◌}
 use Rattle.flp_report.specs.JobParts.{job_of}
-use Rattle.flp_jobs.specs.Place.{failing_check}
+use Rattle.flp_meaning.specs.Circuit.{failing_check}
 use Rattle.flp_jobs.specs.Reading.{setting_of}
 use Rattle.flp_jobs.proofs.PlaceLemmas.{check-more, check-here}
 use Rattle.flp_jobs.proofs.place.first_check.Goals as goal

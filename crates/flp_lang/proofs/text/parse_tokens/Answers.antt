@@ -1,5 +1,5 @@
 use Rattle.std.proofs.Common.{◌∙◌, sym}
-use Rattle.flp_lang.specs.Plan.{done}
+use Rattle.flp_lang.specs.Ahead.{done}
 use Rattle.flp_lang.proofs.Parsing.{all_read, more_left}
 use Rattle.flp_lang.proofs.text.parse_tokens.Goals as goal
 

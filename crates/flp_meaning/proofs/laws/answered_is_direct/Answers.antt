@@ -6,6 +6,3 @@ returns-clause-own c = answers.answered_is_direct
 
 pub returns-clause-filled : goal.returns-clause-filled
 returns-clause-filled c = answers.calls_are_filled
-
-pub returns-clause-true_answers : goal.returns-clause-true_answers
-returns-clause-true_answers c = answers.true_answers_are_direct

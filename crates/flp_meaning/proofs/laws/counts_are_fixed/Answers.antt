@@ -4,9 +4,6 @@ use Rattle.flp_meaning.proofs.laws.counts_are_fixed.Goals as goal
 pub returns-clause-gadgets : goal.returns-clause-gadgets
 returns-clause-gadgets c = fixed.gadgets_are_fixed
 
-pub returns-clause-inputs : goal.returns-clause-inputs
-returns-clause-inputs c = fixed.input_counts_are_fixed
-
 pub returns-clause-calls : goal.returns-clause-calls
 returns-clause-calls c = fixed.calls_are_fixed
 

@@ -1,13 +1,7 @@
-use Rattle.std.proofs.Common.{ℕ, ◌≡◌, ◌-◌, ◌*◌, ◌%◌, ◌^◌, ◌∙◌, ap, arith}
-use Rattle.flp_field.specs.Word.{modulus}
-use Rattle.flp_ntt.specs.Levels.{HasHalfTurn}
+use Rattle.std.proofs.Common.{◌≡◌, ◌-◌, ◌*◌, ◌^◌, arith}
 use Rattle.flp_ntt.proofs.Sizes.{power_halved}
-use Rattle.flp_ntt.proofs.Halves.{square_half_turn, level_split}
+use Rattle.flp_ntt.proofs.Halves.{square_has_turn, level_split}
 use Rattle.flp_ntt.proofs.levels.+scatter.Goals as goal
-
-turned : (root square log : ℕ) → square ≡ (root * root) % modulus → HasHalfTurn root log → HasHalfTurn square (log - 1)
-turned root square log is turn some =
-    ap (λ (x : ℕ). x ^ (2 ^ (log - 1 - 1)) % modulus) is ∙ square_half_turn root log turn some
 
 pub butterflies-requires : goal.butterflies-requires
 butterflies-requires t c =
@@ -17,12 +11,12 @@ butterflies-requires t c =
 pub scatter-requires : goal.scatter-requires
 scatter-requires t c =
     let size : 2 ^ c.args.log ≡ 2 ^ (c.args.log - 1) * 2 = power_halved c.args.log (omega arith) in
-    (omega arith, (omega arith, turned c.args.root c.mul-square.result c.args.log c.mul-square.ensures c.requires.turn))
+    (omega arith, (omega arith, square_has_turn c.args.root c.mul-square.result c.args.log c.mul-square.ensures c.requires.turn))
 
 pub scatter-requires-2 : goal.scatter-requires-2
 scatter-requires-2 t c =
     let size : 2 ^ c.args.log ≡ 2 ^ (c.args.log - 1) * 2 = power_halved c.args.log (omega arith) in
-    (omega arith, (omega arith, turned c.args.root c.mul-square.result c.args.log c.mul-square.ensures c.requires.turn))
+    (omega arith, (omega arith, square_has_turn c.args.root c.mul-square.result c.args.log c.mul-square.ensures c.requires.turn))
 
 pub returns : goal.returns
 returns t c =

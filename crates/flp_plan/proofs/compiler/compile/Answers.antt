@@ -1,4 +1,4 @@
-use Rattle.std.proofs.Common.{◌≡◌, ◌<◌, ◌≤◌, ℕ, List, length, get_or, subst, sym, arith, ap}
+use Rattle.std.proofs.Common.{◌<◌, ℕ, List, length, get_or, subst, sym}
 use Rattle.flp_syntax.specs.View.{program_of}
 use Rattle.flp_plan.specs.declared.gadgets.GadgetUse.{GadgetUse}
 use Rattle.flp_plan.specs.Uses.{UseIsSmall}

@@ -1,4 +1,4 @@
-use Rattle.std.proofs.Common.{◌≡◌, ◌<◌, ◌≤◌, ◌∙◌, ℕ, List, length, ap, sym, arith}
+use Rattle.std.proofs.Common.{◌∙◌, List, length, ap, sym, arith}
 use Rattle.flp_syntax.specs.View.{program_of}
 use Rattle.flp_plan.specs.declared.gadgets.GadgetUse.{GadgetUse}
 use Rattle.flp_plan.proofs.PassedLemmas.{passed_fits}

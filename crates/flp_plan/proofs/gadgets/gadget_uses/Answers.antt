@@ -1,8 +1,8 @@
-use Rattle.std.proofs.Common.{◌≡◌, ◌+◌, ◌<◌, ◌≤◌, ◌∷◌, ◌++◌, [], ℕ, List, length, get_or, Some, ap, sym, ◌∙◌, subst, arith}
+use Rattle.std.proofs.Common.{◌≡◌, ◌+◌, ℕ, List, length, get_or, Some, ap, sym, ◌∙◌, subst, arith}
 use Rattle.std.specs.List.{slice_get}
 use Rattle.flp_gadget.specs.KindTree.{IsKind}
 use Rattle.flp_syntax.specs.View.{program_of}
-use Rattle.flp_meaning.specs.Gadgets.{calls_made, ceil_log}
+use Rattle.flp_meaning.specs.Gadgets.{calls_made}
 use Rattle.flp_plan.specs.declared.gadgets.GadgetUse.{GadgetUse}
 use Rattle.flp_plan.specs.Uses.{IsUse}
 use Rattle.flp_plan.proofs.PassedLemmas.{passed_gadgets, passed_calls, passed_gadget}
@@ -23,21 +23,8 @@ bounds-counts-gadget c =
     let counts = ap (λ (l : List ℕ). length l) c.as_slice-counts.ensures in
     omega arith
 
-pub log_at_least-log-requires : goal.log_at_least-log-requires
-log_at_least-log-requires c =
-    let below = declared_below c.args.checked.now.body c.as_slice-gadgets.result.now c.loop-gadget.gadget c.as_slice-gadgets.ensures c.loop-gadget-test.true in
-    let within = passed_gadget (program_of c.args.checked.now.body) (totals_in c.args.checked.now) (passed_in c.args.checked.now) c.loop-gadget.gadget below in
-    let calls = passed_calls (program_of c.args.checked.now.body) (totals_in c.args.checked.now) (passed_in c.args.checked.now) c.loop-gadget.gadget below in
-    let read = ap (λ (l : List ℕ). get_or l c.loop-gadget.gadget 0) c.as_slice-counts.ensures in
-    omega (arith, within.few_calls)
-
-pub overflow_add-calls : goal.overflow_add-calls
-overflow_add-calls c =
-    let below = declared_below c.args.checked.now.body c.as_slice-gadgets.result.now c.loop-gadget.gadget c.as_slice-gadgets.ensures c.loop-gadget-test.true in
-    let within = passed_gadget (program_of c.args.checked.now.body) (totals_in c.args.checked.now) (passed_in c.args.checked.now) c.loop-gadget.gadget below in
-    let calls = passed_calls (program_of c.args.checked.now.body) (totals_in c.args.checked.now) (passed_in c.args.checked.now) c.loop-gadget.gadget below in
-    let read = ap (λ (l : List ℕ). get_or l c.loop-gadget.gadget 0) c.as_slice-counts.ensures in
-    omega (arith, within.few_calls)
+pub domain_log-log-requires : goal.domain_log-log-requires
+domain_log-log-requires c = declared_below c.args.checked.now.body c.as_slice-gadgets.result.now c.loop-gadget.gadget c.as_slice-gadgets.ensures c.loop-gadget-test.true
 
 pub loop-gadget-preserved : goal.loop-gadget-preserved
 loop-gadget-preserved c =
@@ -47,13 +34,13 @@ loop-gadget-preserved c =
     let calls : get_or c.as_slice-counts.result.now gadget 0 ≡ calls_made body gadget =
     ap (λ (l : List ℕ). get_or l gadget 0) c.as_slice-counts.ensures
     ∙ passed_calls body (totals_in c.args.checked.now) (passed_in c.args.checked.now) gadget below in
-    let held : GadgetUse = record { kind = c.in_ok-kind.kind; calls = get_or c.as_slice-counts.result.now gadget 0; log = c.log_at_least-log.result } in
+    let held : GadgetUse = record { kind = c.in_ok-kind.kind; calls = get_or c.as_slice-counts.result.now gadget 0; log = c.domain_log-log.result } in
     let is : IsUse body gadget held = record {
       kind =
           c.in_ok-kind.ensures
           ∙ sym (declared_kind_is c.args.checked.now.body c.as_slice-gadgets.result.now gadget c.index-gadgets-gadget.result c.as_slice-gadgets.ensures c.loop-gadget-test.true c.index-gadgets-gadget.is);
       calls = calls;
-      log = c.log_at_least-log.ensures ∙ ap (λ (n : ℕ). ceil_log (n + 1)) calls;
+      log = c.domain_log-log.ensures.log;
     } in
     record {
       count = ap (λ (l : List GadgetUse). length l) c.in_ok-push.ensures.items ∙ pushed_length c.loop-gadget.uses.items held ∙ ap (λ (n : ℕ). n + 1) c.loop-gadget.invariant.count;

@@ -1,4 +1,4 @@
-use Rattle.std.proofs.Common.{◌≡◌, ◌<◌, ◌≤◌, ◌^◌, ℕ, arith, subst}
+use Rattle.std.proofs.Common.{◌<◌, ◌≤◌, ℕ, arith, subst}
 use Rattle.flp_plan.proofs.UseLemmas.{log_is}
 use Rattle.flp_plan.proofs.gadgets.log_at_least.Goals as goal
 

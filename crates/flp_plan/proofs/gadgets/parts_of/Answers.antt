@@ -1,7 +1,6 @@
-use Rattle.std.proofs.Common.{◌≡◌, ◌+◌, ◌-◌, ◌*◌, ◌<◌, ◌≤◌, ◌^◌, ℕ, arith, Fits}
-use Rattle.flp_gadget.specs.KindTree.{arity_of, degree_of}
+use Rattle.std.proofs.Common.{arith}
 use Rattle.flp_gadget.specs.KindProofs.{limits_of_kind}
-use Rattle.flp_plan.proofs.UseLemmas.{coefficients_few, points_few}
+use Rattle.flp_plan.proofs.UseLemmas.{coefficients_few}
 use Rattle.flp_plan.proofs.gadgets.parts_of.Goals as goal
 
 pub overflow_cast-degree : goal.overflow_cast-degree
@@ -29,5 +28,4 @@ pub returns-clause-small : goal.returns-clause-small
 returns-clause-small c =
     let low = (limits_of_kind c.args.held.now.kind c.requires.kind).low_degree in
     let few = coefficients_few c.degree-degree.result c.domain_size-size.result (omega arith) c.domain_size-size.ensures.small in
-    let points = points_few c.arity-arity.result c.domain_size-size.result (omega arith) c.domain_size-size.ensures.small in
-    record { prove = omega arith; proof = omega arith; verifier = omega arith; wires = omega arith }
+    record { prove = omega arith; proof = omega arith; verifier = omega arith }

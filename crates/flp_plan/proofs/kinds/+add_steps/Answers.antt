@@ -1,7 +1,4 @@
-use Rattle.std.proofs.Common.{◌≡◌, ◌<◌, ◌≤◌, ◌∷◌, ◌++◌, [], ◌∙◌, ap, sym, arith, rules, append_assoc, List, Some}
-use Rattle.flp_gadget.specs.KindTree.{KindTree, Psum}
-use Rattle.flp_gadget.specs.declared.kind_step.KindStep.{KindStep}
-use Rattle.flp_gadget.specs.declared.kind_step.KindStep.TheVariants.{Psum as PsumStep}
+use Rattle.std.proofs.Common.{arith, rules}
 use Rattle.flp_syntax.specs.declared.syntax.KindText.{the_lemmas}
 use Rattle.flp_syntax.specs.View.{kind_of, kind_of_Psum}
 use Rattle.flp_meaning.specs.Circuit.{kind_tree}

@@ -1,7 +1,6 @@
-use Rattle.std.proofs.Common.{◌≡◌, ◌+◌, ℕ, length, sym, ◌∙◌, ap, ap₂, arith, nat_lt, if◌then◌else◌, add_comm, List}
+use Rattle.std.proofs.Common.{◌+◌, ℕ, length, ◌∙◌, ap, ap₂, nat_lt, if◌then◌else◌, add_comm}
 use Rattle.flp_syntax.specs.View.{program_of}
 use Rattle.flp_check.specs.Verdict.{Totals}
-use Rattle.flp_plan.specs.declared.lengths.Lengths.{Lengths}
 use Rattle.flp_plan.proofs.PassedLemmas.{Passed, passed, passed_checks, passed_outs}
 use Rattle.flp_plan.proofs.UseLemmas.{uses_arity, uses_proof, uses_verifier}
 use Rattle.flp_plan.proofs.lengths.lengths_for.Goals as goal

@@ -1,4 +1,4 @@
-use Rattle.std.proofs.Common.{◌≡◌, ◌+◌, ◌<◌, ◌≤◌, ℕ, List, [], ◌∷◌, ◌++◌, length, take, get_or, arith, subst, sym, ◌∙◌, ap, min}
+use Rattle.std.proofs.Common.{◌≡◌, ◌+◌, ◌<◌, ◌≤◌, ℕ, List, length, take, get_or, arith, subst, sym, ◌∙◌, ap, min}
 use Rattle.std.proofs.lemmas.List.{get_or-map, get_or_default, length-take, length-set}
 use Rattle.flp_meaning.specs.Gadgets.{times}
 use Rattle.flp_emit.specs.declared.code.CallForms.{CallForms}

@@ -1,6 +1,6 @@
 use Rattle.std.proofs.Common.{ℕ, ◌≡◌, ◌+◌, ◌%◌, ◌∙◌, ap, sym, arith}
 use Rattle.flp_field.specs.Word.{modulus}
-use Rattle.flp_poly.proofs.SumLemmas.{sum_to}
+use Rattle.flp_field.proofs.SumLemmas.{sum_to}
 use Rattle.flp_poly.proofs.Products.{summand, sum_before, sum_after, sum_turn}
 use Rattle.flp_poly.proofs.arithmetic.coefficient_of_product.Goals as goal
 

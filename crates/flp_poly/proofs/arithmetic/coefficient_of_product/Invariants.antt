@@ -1,6 +1,6 @@
 use Rattle.std.proofs.Common.{ℕ, ◌≡◌, ◌%◌}
 use Rattle.flp_field.specs.Word.{modulus}
-use Rattle.flp_poly.proofs.SumLemmas.{sum_to}
+use Rattle.flp_field.proofs.SumLemmas.{sum_to}
 use Rattle.flp_poly.proofs.Products.{summand}
 use Rattle.flp_poly.proofs.arithmetic.coefficient_of_product.Given as goal
 

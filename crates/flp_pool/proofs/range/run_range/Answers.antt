@@ -14,4 +14,4 @@ returns-clause-again g c = λ n ready. let all = ran_all g.W.Work.room g.W.Work.
 pub returns-clause-still_free : goal.returns-clause-still_free
 returns-clause-still_free g c = λ top free. let ran = (ran_all g.W.Work.room g.W.Work.done (g.W.Work.right c.args.work.now) (g.W.Work.row_of c.args.work.now) c.args.lo c.args.hi
     c.run_from.new.slot c.args.seat c.in-Some.seat c.args.states.now c.run_from.new.states c.in-Some.is c.requires.range.0 c.requires.seat.1 c.requires.free c.run_from.ensures).1 in
-    still_free (g.W.Work.row_of c.args.work.now) c.args.lo c.args.hi top c.args.seat.view c.in-Some.seat.view ran.claimed ran.seen c.requires.range.0 ran.view ran.claimed_once free
+    still_free (g.W.Work.row_of c.args.work.now) c.args.lo c.args.hi top c.args.seat.view c.in-Some.seat.view c.requires.range.0 ran.taken free

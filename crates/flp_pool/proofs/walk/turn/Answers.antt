@@ -5,7 +5,7 @@ use Rattle.flp_tally.specs.declared.view.View.{View}
 use Rattle.flp_tally.specs.Views.{times, entries_of}
 use Rattle.flp_tally.specs.Rows.{with_row}
 use Rattle.flp_pool.proofs.Walking.{walks_mine, walks_taken}
-use Rattle.flp_pool.proofs.Lists.{took_bare, took_row, none_where}
+use Rattle.flp_pool.proofs.Lists.{with_run-bare, with_run-row, none_where}
 use Rattle.flp_pool.proofs.walk.turn.Goals as goal
 
 pub returns-in-Taken-clause-walk : goal.returns-in-Taken-clause-walk
@@ -17,7 +17,7 @@ pub returns-then-not-item-clause-walk : goal.returns-then-not-item-clause-walk
 returns-then-not-item-clause-walk g c = let v = c.args.seat.now.view in
     walks_mine g.W.Work.room g.W.Work.done (g.W.Work.right c.args.work.now) (g.W.Work.row_of c.args.work.now) c.args.number v c.claim.new.seat.view c.args.state.now c.item.new.state
     record { grown = c.item.ensures.done; spare = c.item.ensures.room; fits = c.item.ensures.right }
-    (c.claim.ensures.mine c.in-Mine.is ∙ took_bare (g.W.Work.row_of c.args.work.now) v c.args.number (none_where c.item.result (g.W.Work.row_of c.args.work.now c.args.number) c.item.ensures.answer c.if-not-item.true))
+    (c.claim.ensures.mine c.in-Mine.is ∙ with_run-bare (g.W.Work.row_of c.args.work.now) v c.args.number (none_where c.item.result (g.W.Work.row_of c.args.work.now c.args.number) c.item.ensures.answer c.if-not-item.true))
 
 pub add-requires-clause-once : goal.add-requires-clause-once
 add-requires-clause-once g c = λ cell. let v = c.args.seat.now.view in let x = c.args.number in let own = c.claim.ensures.owns x cell in
@@ -30,4 +30,4 @@ returns-clause-walk g c = let v = c.args.seat.now.view in
     walks_mine g.W.Work.room g.W.Work.done (g.W.Work.right c.args.work.now) (g.W.Work.row_of c.args.work.now) c.args.number v c.add.new.seat.view c.args.state.now c.item.new.state
     record { grown = c.item.ensures.done; spare = c.item.ensures.room; fits = c.item.ensures.right }
     (c.add.ensures.added ∙ (ap (λ (u : View). with_row u c.args.number c.row.result.now) (c.claim.ensures.mine c.in-Mine.is)
-    ∙ took_row (g.W.Work.row_of c.args.work.now) v c.args.number c.row.result.now (sym c.item.ensures.last ∙ c.row.ensures.row)))
+    ∙ with_run-row (g.W.Work.row_of c.args.work.now) v c.args.number c.row.result.now (sym c.item.ensures.last ∙ c.row.ensures.row)))

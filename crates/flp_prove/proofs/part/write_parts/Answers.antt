@@ -4,7 +4,7 @@ use Rattle.flp_meaning.specs.Gadgets.{arity_of}
 use Rattle.flp_meaning.specs.Lengths.{start_of, proof_part}
 use Rattle.flp_meaning.specs.Proof.{honest_part}
 use Rattle.flp_prove.proofs.JoinedLemmas.{part-written}
-use Rattle.flp_prove.proofs.StartLemmas.{start-more, start-inside, flat-more}
+use Rattle.flp_meaning.proofs.StartLemmas.{start-more, start-inside, flat-more}
 use Rattle.flp_prove.proofs.part.write_parts.Goals as goal
 
 pub slice_bounds-write_part-end : goal.slice_bounds-write_part-end
@@ -35,6 +35,7 @@ loop-gadget-preserved c =
       few = omega (arith, c.loop-gadget.invariant.few, c.arity.ensures.few);
       start = omega (arith, further, c.loop-gadget.invariant.start, c.arity-in-loop-gadget.ensures.inputs, c.coefficients.ensures.count);
       low = omega (arith, c.loop-gadget.invariant.low, c.arity-in-loop-gadget.ensures.few, c.coefficients.ensures.few);
+      again = c.write_part.ensures.again ∙ c.loop-gadget.invariant.again;
       parts = λ joint publics answers.
           let part : ℕ → List ℕ = honest_part body c.args.reading.now.x.now joint c.args.seeds.now in
           let before : List ℕ = flat_map part (range_with_len 0 g) in
@@ -43,7 +44,7 @@ loop-gadget-preserved c =
           part-written c.loop-gadget.start _ c.loop-gadget.proof c.write_part.new.part before end
           (c.loop-gadget.invariant.parts joint publics answers) (omega (arith, fits, c.write_part.auto.part)) (omega (arith, fits))
           ∙ ap (λ (l : List ℕ). before ++ l)
-          (c.write_part.ensures joint c.args.seeds.now publics answers
+          (c.write_part.ensures.part joint c.args.seeds.now publics answers
           (ap₂ (λ (n s : ℕ). take n (drop s c.args.seeds.now)) count c.loop-gadget.invariant.first))
           ∙ sym (flat-more part 0 g ∙ ap (λ (k : ℕ). before ++ part k) here);
     }

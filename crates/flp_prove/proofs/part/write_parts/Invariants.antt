@@ -13,6 +13,7 @@ invariant-loop-gadget l = record {
   few : l.first ≤ 1024 * l.gadget;
   start : l.start ≡ start_of (proof_part l.plan.circuit) l.gadget;
   low : l.start ≤ 33785 * l.gadget;
+  again : l.room ≡ l.fn.room;
   parts : (joint : List ℕ) → l.reading.publics.now ≡ publics_of l.plan joint
       → l.reading.answers.now ≡ call_values l.plan.circuit l.reading.x.now joint
       → take l.start l.proof ≡ flat_map (honest_part l.plan.circuit l.reading.x.now joint l.seeds) (range_with_len 0 l.gadget);

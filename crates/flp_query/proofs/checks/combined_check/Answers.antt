@@ -1,8 +1,8 @@
-use Rattle.std.proofs.Common.{ℕ, ◌≡◌, ◌∙◌, ◌+◌, ◌%◌, ◌*◌, ◌<◌, List, length, get_or, sym, ap, arith}
+use Rattle.std.proofs.Common.{ℕ, ◌≡◌, ◌∙◌, ◌+◌, ◌%◌, ap, arith}
 use Rattle.std.proofs.lemmas.List.{get_or_read}
 use Rattle.flp_field.specs.Word.{modulus}
 use Rattle.flp_meaning.specs.Meaning.{Reading}
-use Rattle.flp_meaning.specs.Circuit.{checks_of, answered}
+use Rattle.flp_meaning.specs.Circuit.{checks_of, with_answers}
 use Rattle.flp_meaning.specs.Gadgets.{check_count}
 use Rattle.flp_meaning.specs.Lengths.{check_words}
 use Rattle.flp_meaning.proofs.Fixed.{checks_are_fixed}
@@ -11,7 +11,7 @@ use Rattle.flp_query.proofs.checks.combined_check.Goals as goal
 
 pub loop-index-preserved : goal.loop-index-preserved
 loop-index-preserved c joint same =
-    let reading : Reading = answered c.args.reading.now.x.now joint c.args.reading.now.unit c.args.reading.now.answers.now in
+    let reading : Reading = with_answers c.args.reading.now.x.now joint c.args.reading.now.unit c.args.reading.now.answers.now in
     let several : check_words c.args.plan.now.circuit ≡ check_count c.args.plan.now.circuit =
     words-several c.args.plan.now.circuit (omega (arith, c.is_within_limits.ensures.some_checks)) in
     c.add-sum.ensures
@@ -23,7 +23,7 @@ loop-index-preserved c joint same =
 
 pub returns : goal.returns
 returns c joint same =
-    let reading : Reading = answered c.args.reading.now.x.now joint c.args.reading.now.unit c.args.reading.now.answers.now in
+    let reading : Reading = with_answers c.args.reading.now.x.now joint c.args.reading.now.unit c.args.reading.now.answers.now in
     combined-all c.args.plan.now.circuit (checks_of c.args.plan.now.circuit reading) c.args.words.now c.loop-index.index c.loop-index.sum
     (omega (arith, c.is_within_limits.ensures.some_checks)) (checks_are_fixed c.args.plan.now.circuit reading) (omega arith)
     (c.loop-index.invariant joint same)

@@ -1,4 +1,4 @@
-use Rattle.std.proofs.Common.{ℕ, ◌≡◌, ◌+◌, ◌-◌, ◌<◌, ◌≤◌, ◌∙◌, Bool, true, false, List, length, take, drop, get_or, eqb, ap, ap₂, sym, refl, arith, rules}
+use Rattle.std.proofs.Common.{ℕ, ◌≡◌, ◌+◌, ◌-◌, ◌<◌, ◌∙◌, Bool, true, false, List, length, take, drop, get_or, eqb, ap, ap₂, sym, refl, arith, rules}
 use Rattle.std.specs.Prelude.{not}
 use Rattle.std.proofs.lemmas.List.{get_or_read}
 use Rattle.flp_gadget.specs.KindTree.{KindTree, value_of}
@@ -7,7 +7,7 @@ use Rattle.flp_meaning.specs.Circuit.{kind_of}
 use Rattle.flp_meaning.specs.Gadgets.{arity_of}
 use Rattle.flp_meaning.specs.Lengths.{start_of, verifier_part}
 use Rattle.flp_meaning.specs.Verifier.{gadget_holds}
-use Rattle.flp_query.proofs.StartLemmas.{start-more}
+use Rattle.flp_meaning.proofs.StartLemmas.{start-more}
 use Rattle.flp_query.proofs.DecisionLemmas.{part-fits, holds-at, all-more, decides-not}
 use Rattle.flp_query.proofs.decision.decide.Goals as goal
 

@@ -1,4 +1,4 @@
-use Rattle.std.proofs.Common.{ℕ, ◌≡◌, ◌+◌, ◌<◌, Bool, true, List}
+use Rattle.std.proofs.Common.{◌≡◌, ◌+◌, true}
 use Rattle.std.specs.List.{range_with_len, list_all}
 use Rattle.flp_meaning.specs.Lengths.{start_of, verifier_part}
 use Rattle.flp_meaning.specs.Verifier.{gadget_holds}

@@ -1,7 +1,7 @@
 use Rattle.std.proofs.Common.{ℕ, ◌≡◌, ◌+◌, ◌≤◌, ◌∙◌, ap, length, arith}
 use Rattle.std.specs.List.{range_with_len, sum_by}
 use Rattle.flp_meaning.specs.Lengths.{proof_part, start_of}
-use Rattle.flp_query.proofs.StartLemmas.{start-more, start-inside}
+use Rattle.flp_meaning.proofs.StartLemmas.{start-more, start-inside}
 use Rattle.flp_query.proofs.parts.proof_start.Goals as goal
 
 pub loop-earlier-preserved : goal.loop-earlier-preserved

@@ -1,4 +1,4 @@
-use Rattle.std.proofs.Common.{ℕ, ◌≡◌, ◌*◌, ◌≤◌}
+use Rattle.std.proofs.Common.{◌≡◌, ◌*◌, ◌≤◌}
 use Rattle.flp_meaning.specs.Lengths.{proof_part, start_of}
 use Rattle.flp_query.proofs.parts.proof_start.Given as goal
 

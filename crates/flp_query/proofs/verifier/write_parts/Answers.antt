@@ -1,8 +1,8 @@
-use Rattle.std.proofs.Common.{ℕ, ◌≡◌, ◌+◌, ◌-◌, ◌<◌, ◌≤◌, ◌∙◌, List, length, take, drop, ap, sym, arith, rules}
+use Rattle.std.proofs.Common.{ℕ, ◌≡◌, ◌+◌, ◌-◌, ◌≤◌, ◌∙◌, List, length, take, drop, arith, rules}
 use Rattle.flp_meaning.specs.Lengths.{start_of, verifier_part}
 use Rattle.flp_meaning.specs.Verifier.{verifier_of}
 use Rattle.flp_plan.proofs.FormLemmas.{range_length}
-use Rattle.flp_query.proofs.StartLemmas.{start-more}
+use Rattle.flp_meaning.proofs.StartLemmas.{start-more}
 use Rattle.flp_query.proofs.VerifierLemmas.{parts-fit, parts-more, parts-all}
 use Rattle.flp_query.proofs.verifier.write_parts.Goals as goal
 
@@ -51,15 +51,15 @@ loop-gadget-preserved c =
     ∙ omega arith in
     record {
       start = omega arith;
-      parts = λ (joint : List ℕ) same.
-          parts-more (verifier_of c.args.plan.now.circuit c.args.reading.now.x.now joint c.args.proof.now c.args.words.now c.args.reading.now.unit)
+      parts = λ (joint : List ℕ) same all.
+          parts-more (verifier_of c.args.plan.now.circuit c.args.reading.now.x.now joint c.args.proof.now c.args.question.now.words.now c.args.reading.now.unit)
           c.loop-gadget.gadget c.loop-gadget.start (c.loop-gadget.start + c.arity.result + 1) _ c.loop-gadget.parts c.write_part.new.part
-          (omega arith) (omega arith) (c.loop-gadget.invariant.parts joint same)
-          (c.write_part.ensures joint c.args.words.now same c.point-at.ensures);
+          (omega arith) (omega arith) (c.loop-gadget.invariant.parts joint same all)
+          (c.write_part.ensures joint same all);
     }
 
 pub returns : goal.returns
-returns c joint same =
-    parts-all c.args.plan.now.circuit (verifier_of c.args.plan.now.circuit c.args.reading.now.x.now joint c.args.proof.now c.args.words.now c.args.reading.now.unit)
+returns c joint same all =
+    parts-all c.args.plan.now.circuit (verifier_of c.args.plan.now.circuit c.args.reading.now.x.now joint c.args.proof.now c.args.question.now.words.now c.args.reading.now.unit)
     c.loop-gadget.gadget c.loop-gadget.start c.loop-gadget.parts (omega arith) c.loop-gadget.invariant.start (omega arith)
-    (c.loop-gadget.invariant.parts joint same)
+    (c.loop-gadget.invariant.parts joint same all)

@@ -1,4 +1,5 @@
-use Rattle.flp_report.proofs.BackLemmas.{length-head, IsFront-read, header_of-more, claims_of-more}
+use Rattle.flp_report.proofs.BatchHeadLemmas.{length-head, header_of-more}
+use Rattle.flp_report.proofs.BackLemmas.{IsFront-read, claims_of-more}
 use Rattle.flp_report.proofs.laws.read_front.Goals as goal
 
 pub returns-clause-size : goal.returns-clause-size

@@ -1,5 +1,5 @@
 use Rattle.std.proofs.Common.{ap}
-use Rattle.flp_report.specs.declared.job_shape.JobHeader.{JobHeader}
+use Rattle.flp_report.specs.declared.header.JobHeader.{JobHeader}
 use Rattle.flp_report.proofs.HeadLemmas.{length-text}
 use Rattle.flp_report.proofs.JobHeadLemmas.{job_header_of-more, jobs_of-more}
 use Rattle.flp_report.proofs.laws.read_jobs.Goals as goal

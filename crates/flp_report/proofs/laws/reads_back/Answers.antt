@@ -1,5 +1,5 @@
-use Rattle.flp_report.proofs.ReportLemmas.{IsBatch-written}
+use Rattle.flp_report.proofs.ReportLemmas.{ReadsAs-written}
 use Rattle.flp_report.proofs.laws.reads_back.Goals as goal
 
 pub returns : goal.returns
-returns c = IsBatch-written
+returns c = ReadsAs-written

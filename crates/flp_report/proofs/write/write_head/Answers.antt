@@ -1,36 +1,17 @@
-use Rattle.std.proofs.Common.{◌≡◌, ◌++◌, refl, subst}
-use Rattle.std.specs.Io.KnownBytes.{Appends}
-use Rattle.std.proofs.KnownBytes.{Appends-trans}
-use Rattle.flp_io.specs.Writes.{TakesPrefix}
-use Rattle.flp_io.proofs.WriteLemmas.{TakesPrefix-after, TakesPrefix-more}
+use Rattle.std.proofs.Common.{◌++◌, ℕ, List, refl, subst}
+use Rattle.std.specs.List.{flat_map}
+use Rattle.byteorder.specs.Endian.{little_bytes}
+use Rattle.flp_io.specs.Writes.{WritesTo}
+use Rattle.flp_io.proofs.WriteLemmas.{WritesTo-after, WritesTo-short}
 use Rattle.flp_report.specs.Batch.{batch_letters}
-use Rattle.flp_report.specs.Layout.{head_bytes}
+use Rattle.flp_report.specs.Layout.{head_numbers}
 use Rattle.flp_report.proofs.write.write_head.Goals as goal
 
-pub returns-in-Err-clause-front : goal.returns-in-Err-clause-front
-returns-in-Err-clause-front g c =
-    let start = batch_letters ++ c.write_u32_into.new.dst in
-    let text = c.as_slice-text.result.now in
-    let same : start ++ text ≡ head_bytes c.args.header.now = rw (c.write_u32_into.ensures, c.as_slice-text.ensures) (refl {a = head_bytes c.args.header.now}) in
-    subst (λ l. TakesPrefix (g.K.Sink.taken c.args.sink.now) (g.K.Sink.taken c.put_both.new.sink) l) same (TakesPrefix-more _ _ start text c.in-Err.ensures.front)
+pub returns-in-Err : goal.returns-in-Err
+returns-in-Err g c = WritesTo-short (batch_letters ++ flat_map (little_bytes 4) (head_numbers c.args.header.now)) c.args.header.now.text c.in-Err.ensures refl refl
 
-pub returns-in-Ok-put-clause-bytes : goal.returns-in-Ok-put-clause-bytes
-returns-in-Ok-put-clause-bytes g c =
-    let start = batch_letters ++ c.write_u32_into.new.dst in
-    let text = c.as_slice-text.result.now in
-    let same : start ++ text ≡ head_bytes c.args.header.now = rw (c.write_u32_into.ensures, c.as_slice-text.ensures) (refl {a = head_bytes c.args.header.now}) in
-    subst (λ l. Appends (g.K.Sink.taken c.args.sink.now) (g.K.Sink.taken c.put.new.sink) l) same (Appends-trans _ _ _ start text c.in-Ok.ensures.bytes c.in-Ok-put.ensures.bytes)
-
-pub returns-in-Ok-put-clause-front : goal.returns-in-Ok-put-clause-front
-returns-in-Ok-put-clause-front g c =
-    let start = batch_letters ++ c.write_u32_into.new.dst in
-    let text = c.as_slice-text.result.now in
-    let same : start ++ text ≡ head_bytes c.args.header.now = rw (c.write_u32_into.ensures, c.as_slice-text.ensures) (refl {a = head_bytes c.args.header.now}) in
-    subst (λ l. TakesPrefix (g.K.Sink.taken c.args.sink.now) (g.K.Sink.taken c.put.new.sink) l) same (TakesPrefix-after _ _ _ start text c.in-Ok.ensures.bytes c.in-Ok-put.ensures.front)
-
-pub returns-in-Err-put-clause-front : goal.returns-in-Err-put-clause-front
-returns-in-Err-put-clause-front g c =
-    let start = batch_letters ++ c.write_u32_into.new.dst in
-    let text = c.as_slice-text.result.now in
-    let same : start ++ text ≡ head_bytes c.args.header.now = rw (c.write_u32_into.ensures, c.as_slice-text.ensures) (refl {a = head_bytes c.args.header.now}) in
-    subst (λ l. TakesPrefix (g.K.Sink.taken c.args.sink.now) (g.K.Sink.taken c.put.new.sink) l) same (TakesPrefix-after _ _ _ start text c.in-Ok.ensures.bytes c.in-Err-put.ensures.front)
+pub returns : goal.returns
+returns g c =
+    let start = batch_letters ++ flat_map (little_bytes 4) (head_numbers c.args.header.now) in
+    WritesTo-after start c.args.header.now.text c.in-Ok.ensures refl
+    (subst (λ (l : List ℕ). WritesTo g.K.Sink.taken g.K.Sink.faults g.K.Sink.spare g.K.Sink.ready c.put_start.new.sink c.put.new.sink l c.put.result) c.as_slice.ensures c.put.ensures.sink)

@@ -1,61 +1,44 @@
-use Rattle.std.proofs.Common.{ℕ, suc, ◌≡◌, ◌+◌, ◌-◌, ◌*◌, ◌%◌, ◌<◌, List, length, get_or, take, drop, arith, ap, sym, subst, ◌∙◌}
+use Rattle.std.proofs.Common.{ℕ, suc, ◌≡◌, ◌+◌, ◌-◌, ◌*◌, ◌<◌, List, [], ◌∷◌, ◌++◌, length, take, drop, arith, ap, sym, ◌∙◌}
 use Rattle.std.proofs.Math.Nat.{suc-mul}
-use Rattle.std.proofs.lemmas.List.{length-drop}
-use Rattle.flp_field.specs.Word.{modulus, word_sum}
-use Rattle.flp_field.specs.Sums.{parts_of}
-use Rattle.flp_field.proofs.ListSums.{column, column-cons, sum_of_lists_from}
-use Rattle.flp_share.proofs.shares.unshare.Invariants.{AddsUp}
+use Rattle.std.proofs.lemmas.List.{length-drop, drop-drop}
+use Rattle.flp_field.specs.Sums.{sum_of_lists, parts_of, sum_of_parts}
+use Rattle.flp_field.proofs.ListParts.{parts_of-more}
+use Rattle.flp_share.specs.Adding.{AddsList}
+use Rattle.flp_share.proofs.shares.unshare.Invariants.{AddedUp}
 use Rattle.flp_share.proofs.shares.unshare.Goals as goal
 
 -- one part more
-adds_part : (n : ℕ) (whole : List (List ℕ)) (left after : ℕ) (rest out next : List ℕ) → left ≡ suc after → length next ≡ n → ((k : ℕ) → k < n → get_or next k 0 ≡ word_sum (get_or out k 0) (get_or (take n rest) k 0)) → AddsUp n whole left rest out → AddsUp n whole after (drop n rest) next
-adds_part n whole left after rest out next one room added before =
-    let one_part : suc after * n ≡ after * n + n = suc-mul after n in
-    let had : length rest ≡ suc after * n = before.size ∙ ap (λ (c : ℕ). c * n) one in
-    let behind : length (drop n rest) ≡ length rest - n = length-drop n rest in
+adds_part : (n : ℕ) (all : List ℕ) (shares count : ℕ) (rest part behind out next : List ℕ) → count < shares → part ≡ take n rest → behind ≡ drop n rest
+    → length next ≡ n → AddsList part out next → AddedUp n all shares count rest out → AddedUp n all shares (count + 1) behind next
+adds_part n all shares count rest part behind out next below front back room adds before =
+    let one : suc (shares - (count + 1)) * n ≡ (shares - (count + 1)) * n + n = suc-mul (shares - (count + 1)) n in
+    let left : shares - count ≡ suc (shares - (count + 1)) = omega arith in
+    let had : length rest ≡ suc (shares - (count + 1)) * n = before.size ∙ ap (λ (c : ℕ). c * n) left in
+    let fewer : length behind ≡ length rest - n = ap (λ (l : List ℕ). length l) back ∙ length-drop n rest in
+    let place : count * n + n ≡ (count + 1) * n = omega arith in
+    let own : part ≡ take n (drop (count * n) all) = front ∙ ap (λ (l : List ℕ). take n l) before.behind in
     record {
       room = room;
       size = omega arith;
-      words = λ (k : ℕ) (below : k < n). let here : get_or next k 0 ≡ word_sum (get_or out k 0) (get_or (take n rest) k 0) = added k below in omega arith;
+      behind = back ∙ ap (λ (l : List ℕ). drop n l) before.behind ∙ drop-drop n (count * n) all ∙ ap (λ (i : ℕ). drop i all) place;
       sum =
-          λ (k : ℕ) (below : k < n).
-          let here : get_or next k 0 ≡ word_sum (get_or out k 0) (get_or (take n rest) k 0) = added k below in
-          let first : column (parts_of (suc after) n rest) k ≡ get_or (take n rest) k 0 + column (parts_of after n (drop n rest)) k =
-          column-cons (take n rest) (parts_of after n (drop n rest)) k in
-          let sum : (get_or out k 0 + column (parts_of (suc after) n rest) k) % modulus ≡ column whole k % modulus =
-          ap (λ (c : ℕ). (get_or out k 0 + column (parts_of c n rest) k) % modulus) (sym one) ∙ before.sum k below in
-          omega arith;
+          adds (parts_of count n all) (before.sum ∙ ap (λ (m : ℕ). sum_of_lists m (parts_of count n all)) (sym before.room))
+          ∙ ap (λ (m : ℕ). sum_of_lists m (parts_of count n all ++ part ∷ [])) before.room
+          ∙ ap (λ (l : List ℕ). sum_of_lists n (parts_of count n all ++ l ∷ [])) own
+          ∙ ap (λ (lists : List (List ℕ)). sum_of_lists n lists) (sym (parts_of-more count 1 n all));
     }
-
--- no part more
-adds_none : (n : ℕ) (whole : List (List ℕ)) (left : ℕ) (rest out : List ℕ) → left ≡ 0 → AddsUp n whole left rest out → (k : ℕ) → k < n → get_or out k 0 ≡ column whole k % modulus
-adds_none n whole left rest out none all k below =
-    let sum : (get_or out k 0 + column (parts_of 0 n rest) k) % modulus ≡ column whole k % modulus =
-    ap (λ (c : ℕ). (get_or out k 0 + column (parts_of c n rest) k) % modulus) (sym none) ∙ all.sum k below in
-    let word : get_or out k 0 < modulus = all.words k below in
-    omega arith
 
 pub loop-preserved : goal.loop-preserved
 loop-preserved c =
     let n : ℕ = length c.args.out.now in
-    let whole : List (List ℕ) = parts_of c.args.shares (length c.args.out.now) c.args.parts.now in
-    let room : length c.loop.out ≡ length c.args.out.now = c.loop.invariant.room in
-    let front : c.split_at.result.0.now ≡ take (length c.args.out.now) c.loop.rest.now =
-    c.split_at.ensures.front ∙ ap (λ (m : ℕ). take m c.loop.rest.now) room in
-    let behind : c.split_at.result.1.now ≡ drop (length c.args.out.now) c.loop.rest.now =
-    c.split_at.ensures.back ∙ ap (λ (m : ℕ). drop m c.loop.rest.now) room in
-    let P : List ℕ → Type 0 = λ (rest : List ℕ). AddsUp n whole (c.args.shares - (c.loop.counter + 1)) rest c.add_to.new.sum in
-    subst P (sym behind)
-    (adds_part n whole (c.args.shares - c.loop.counter) (c.args.shares - (c.loop.counter + 1)) c.loop.rest.now c.loop.out
-    c.add_to.new.sum (omega arith) (omega arith)
-    (λ (k : ℕ) (below : k < length c.args.out.now).
-    c.add_to.ensures k (omega arith)
-    ∙ ap (λ (part : List ℕ). word_sum (get_or c.loop.out k 0) (get_or part k 0)) front)
-    c.loop.invariant)
+    let room : length c.loop.out ≡ n = c.loop.invariant.room in
+    adds_part n c.args.parts.now c.args.shares c.loop.counter c.loop.rest.now c.split_at.result.0.now c.split_at.result.1.now
+    c.loop.out c.add_to.new.sum (omega arith)
+    (c.split_at.ensures.front ∙ ap (λ (m : ℕ). take m c.loop.rest.now) room)
+    (c.split_at.ensures.back ∙ ap (λ (m : ℕ). drop m c.loop.rest.now) room)
+    (omega arith) c.add_to.ensures c.loop.invariant
 
 pub returns : goal.returns
 returns c =
-    sum_of_lists_from (length c.args.out.now) c.loop.out
-    (parts_of c.args.shares (length c.args.out.now) c.args.parts.now) c.loop.invariant.room
-    (adds_none (length c.args.out.now) (parts_of c.args.shares (length c.args.out.now) c.args.parts.now)
-    (c.args.shares - c.loop.counter) c.loop.rest.now c.loop.out (omega arith) c.loop.invariant)
+    let all : c.loop.counter ≡ c.args.shares = omega arith in
+    c.loop.invariant.sum ∙ ap (λ (count : ℕ). sum_of_parts count (length c.args.out.now) c.args.parts.now) all

@@ -1,16 +1,13 @@
-use Rattle.std.proofs.Common.{ℕ, ◌≡◌, ◌+◌, ◌-◌, ◌*◌, ◌%◌, ◌<◌, List, length, get_or}
-use Rattle.flp_field.specs.Word.{modulus}
-use Rattle.flp_field.specs.Sums.{parts_of}
-use Rattle.flp_field.proofs.ListSums.{column}
+use Rattle.std.proofs.Common.{ℕ, ◌≡◌, ◌-◌, ◌*◌, List, length, drop}
+use Rattle.flp_field.specs.Sums.{sum_of_parts}
 use Rattle.flp_share.proofs.shares.unshare.Given as goal
 
--- so many parts of n words are left, and with them the words that were added up give the whole sum
-pub record AddsUp (n : ℕ) (whole : List (List ℕ)) (left : ℕ) (rest out : List ℕ) : Type 0 where
+-- so many parts of n words are added up, and the others are left
+pub record AddedUp (n : ℕ) (all : List ℕ) (shares count : ℕ) (rest out : List ℕ) : Type 0 where
   pub room : length out ≡ n
-  pub size : length rest ≡ left * n
-  pub words : (k : ℕ) → k < n → get_or out k 0 < modulus
-  pub sum : (k : ℕ) → k < n → (get_or out k 0 + column (parts_of left n rest) k) % modulus ≡ column whole k % modulus
+  pub size : length rest ≡ (shares - count) * n
+  pub behind : rest ≡ drop (count * n) all
+  pub sum : out ≡ sum_of_parts count n all
 
 abbrev pub invariant-loop : goal.invariant-loop
-invariant-loop l =
-    AddsUp (length l.fn.out) (parts_of l.shares (length l.fn.out) l.fn.parts) (l.shares - l.counter) l.rest l.out
+invariant-loop l = AddedUp (length l.fn.out) l.fn.parts l.shares l.counter l.rest l.out

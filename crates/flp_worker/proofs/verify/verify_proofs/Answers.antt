@@ -1,6 +1,6 @@
 use Rattle.std.proofs.Common.{ℕ, ◌≡◌, ◌+◌, ◌*◌, ◌<◌, ◌≤◌, ◌&&◌, Bool, List, length, refl, ap, ap₂, sym, ◌∙◌, below_more, rules, arith}
 use Rattle.std.specs.Prelude.{None}
-use Rattle.flp_plan.specs.Counted.{lengths_of}
+use Rattle.flp_plan.specs.Counted.{counted_lengths}
 use Rattle.flp_worker.specs.Parts.{joint_words}
 use Rattle.flp_worker.specs.Verdict.{proof_holds, gadget_inside, verifiers_for}
 use Rattle.flp_worker.proofs.PrefixLemmas.{parts-fit, flat-more}
@@ -18,28 +18,28 @@ fits-in proof proofs shares n sum held below same all =
 pub overflow_mul-start : goal.overflow_mul-start
 overflow_mul-start c =
     let fits : c.loop-proof.proof * (c.args.words.now.shape.shares * length c.args.sum.now) + c.args.words.now.shape.shares * length c.args.sum.now ≤ length c.loop-proof.verifiers =
-    fits-in c.loop-proof.proof c.args.words.now.shape.proofs c.args.words.now.shape.shares (lengths_of c.args.plan.now.circuit).verifier
+    fits-in c.loop-proof.proof c.args.words.now.shape.proofs c.args.words.now.shape.shares (counted_lengths c.args.plan.now.circuit).verifier
     (length c.args.sum.now) (length c.loop-proof.verifiers) c.loop-proof-test.true c.requires.sum (c.loop-proof.auto.verifiers ∙ c.requires.room) in
     search rules
 
 pub overflow_add-of_shares : goal.overflow_add-of_shares
 overflow_add-of_shares c =
     let fits : c.loop-proof.proof * (c.args.words.now.shape.shares * length c.args.sum.now) + c.args.words.now.shape.shares * length c.args.sum.now ≤ length c.loop-proof.verifiers =
-    fits-in c.loop-proof.proof c.args.words.now.shape.proofs c.args.words.now.shape.shares (lengths_of c.args.plan.now.circuit).verifier
+    fits-in c.loop-proof.proof c.args.words.now.shape.proofs c.args.words.now.shape.shares (counted_lengths c.args.plan.now.circuit).verifier
     (length c.args.sum.now) (length c.loop-proof.verifiers) c.loop-proof-test.true c.requires.sum (c.loop-proof.auto.verifiers ∙ c.requires.room) in
     search rules
 
 pub offset_bounds-verifiers-start : goal.offset_bounds-verifiers-start
 offset_bounds-verifiers-start c =
     let fits : c.loop-proof.proof * (c.args.words.now.shape.shares * length c.args.sum.now) + c.args.words.now.shape.shares * length c.args.sum.now ≤ length c.loop-proof.verifiers =
-    fits-in c.loop-proof.proof c.args.words.now.shape.proofs c.args.words.now.shape.shares (lengths_of c.args.plan.now.circuit).verifier
+    fits-in c.loop-proof.proof c.args.words.now.shape.proofs c.args.words.now.shape.shares (counted_lengths c.args.plan.now.circuit).verifier
     (length c.args.sum.now) (length c.loop-proof.verifiers) c.loop-proof-test.true c.requires.sum (c.loop-proof.auto.verifiers ∙ c.requires.room) in
     search rules
 
 pub slice_bounds-of_shares-end : goal.slice_bounds-of_shares-end
 slice_bounds-of_shares-end c =
     let fits : c.loop-proof.proof * (c.args.words.now.shape.shares * length c.args.sum.now) + c.args.words.now.shape.shares * length c.args.sum.now ≤ length c.loop-proof.verifiers =
-    fits-in c.loop-proof.proof c.args.words.now.shape.proofs c.args.words.now.shape.shares (lengths_of c.args.plan.now.circuit).verifier
+    fits-in c.loop-proof.proof c.args.words.now.shape.proofs c.args.words.now.shape.shares (counted_lengths c.args.plan.now.circuit).verifier
     (length c.args.sum.now) (length c.loop-proof.verifiers) c.loop-proof-test.true c.requires.sum (c.loop-proof.auto.verifiers ∙ c.requires.room) in
     search rules
 
@@ -50,7 +50,7 @@ returns-in-Err-clause-inside c =
 
 pub loop-proof-preserved : goal.loop-proof-preserved
 loop-proof-preserved c =
-    let n : ℕ = (lengths_of c.args.plan.now.circuit).verifier in
+    let n : ℕ = (counted_lengths c.args.plan.now.circuit).verifier in
     let k : ℕ = c.loop-proof.proof in
     let shares : ℕ = c.args.words.now.shape.shares in
     let f : ℕ → List ℕ = verifiers_for c.args.plan.now.circuit c.args.words.now.shape c.args.words.now.all.now in

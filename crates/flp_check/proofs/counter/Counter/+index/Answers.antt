@@ -1,7 +1,7 @@
 use Rattle.flp_syntax.specs.View.{index_of_Number, index_of_Var, index_of_Add, index_of_Mul}
-use Rattle.flp_check.proofs.Rests.{rest_indices, rest_index_items}
+use Rattle.flp_syntax.proofs.Rests.{rest_indices, rest_index_items}
 use Rattle.flp_check.proofs.Walking.{walks_more, handed_on, leads_on, leads_stop, stops_front, stops_back}
-use Rattle.flp_check.proofs.Nodes.{index_stops, sum_from-on}
+use Rattle.flp_check.proofs.Nodes.{index_stops}
 use Rattle.flp_check.proofs.counter.Counter.+index.Goals as goal
 
 pub index-returns-in_err-visit-clause-walked : goal.index-returns-in_err-visit-clause-walked
@@ -38,7 +38,7 @@ index-returns-in-Mul-clause-value t c = rw (c.in-Mul.is, index_of_Mul, ← c.as_
 pub sum-loop-item-preserved : goal.sum-loop-item-preserved
 sum-loop-item-preserved t c =
     let left = rw (rest_index_items _ _ c.item-item.result c.loop-item-test.true c.item-item.is) at c.loop-item.invariant.walked in
-    let value = rw (rest_index_items _ _ c.item-item.result c.loop-item-test.true c.item-item.is, sum_from-on) at c.loop-item.invariant.value in
+    let value = rw (rest_index_items _ _ c.item-item.result c.loop-item-test.true c.item-item.is) at c.loop-item.invariant.value in
     let step = rw c.in_ok-value.ensures.value at c.in_ok-next.ensures.walked in
     record {
       walked = rw (c.in_ok-next.ensures.value, c.in_ok-value.ensures.value) (leads_on (leads_on left c.in_ok-value.ensures.walked) (step _));

@@ -3,7 +3,8 @@ use Rattle.flp_syntax.specs.Tree.{index_items, indices}
 use Rattle.flp_syntax.specs.Scope.{sum_from, product_from}
 use Rattle.flp_syntax.specs.View.{index_of, index_item_of}
 use Rattle.flp_check.specs.Events.{sum_events, product_events}
-use Rattle.flp_check.specs.Held.{scope_of, counts_of}
+use Rattle.flp_check.specs.Held.{counts_of}
+use Rattle.flp_syntax.specs.View.{scope_of}
 use Rattle.flp_check.proofs.Walking.{Leads}
 use Rattle.flp_check.proofs.counter.Counter.+index.Given as goal
 

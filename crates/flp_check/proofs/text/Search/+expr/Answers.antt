@@ -1,5 +1,5 @@
 use Rattle.flp_syntax.specs.View.{tree_of_Number, tree_of_Var, tree_of_Joint, tree_of_Meas, tree_of_MeasOrZero, tree_of_Sum, tree_of_Call, tree_of_Add, tree_of_Mul, tree_of_Pow, arg_of_One, arg_of_Each}
-use Rattle.flp_check.proofs.Rests.{rest_items, rest_trees, rest_args}
+use Rattle.flp_syntax.proofs.Rests.{rest_items, rest_trees, rest_args}
 use Rattle.flp_check.proofs.Finding.{finds_none, finds_more}
 use Rattle.flp_check.proofs.text.Search.+expr.Goals as goal
 
@@ -31,7 +31,7 @@ pub expr-returns-in-Number : goal.expr-returns-in-Number
 expr-returns-in-Number t c = rw (c.in-Number.is, tree_of_Number) (finds_none _)
 
 pub expr-returns-in-Var : goal.expr-returns-in-Var
-expr-returns-in-Var t c = rw (c.in-Var.is, tree_of_Var) c.used.ensures
+expr-returns-in-Var t c = rw (c.in-Var.is, tree_of_Var) c.note_unbound.ensures
 
 pub expr-returns-in-Joint : goal.expr-returns-in-Joint
 expr-returns-in-Joint t c = rw (c.in-Joint.is, tree_of_Joint) (finds_more c.note.ensures c.index.ensures)
@@ -49,7 +49,7 @@ pub expr-returns-in-Call : goal.expr-returns-in-Call
 expr-returns-in-Call t c = rw (c.in-Call.is, tree_of_Call, ← c.as_slice.ensures) c.call.ensures
 
 pub call-returns : goal.call-returns
-call-returns t c = finds_more c.called.ensures (finds_more c.note.ensures c.in_ok-args.ensures)
+call-returns t c = finds_more c.note_unknown.ensures (finds_more c.note.ensures c.in_ok-args.ensures)
 
 pub expr-returns-in-Add : goal.expr-returns-in-Add
 expr-returns-in-Add t c =

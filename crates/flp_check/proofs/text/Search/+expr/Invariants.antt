@@ -2,7 +2,7 @@ use Rattle.std.proofs.Common.{Option, false, map, drop}
 use Rattle.flp_syntax.specs.Tree.{items, trees, arguments}
 use Rattle.flp_syntax.specs.View.{tree_of, item_of, arg_of, declaration_of}
 use Rattle.flp_check.specs.declared.flaw.Flaw.{Flaw}
-use Rattle.flp_check.specs.Held.{names_of}
+use Rattle.flp_syntax.specs.View.{names_of}
 use Rattle.flp_check.specs.Flaws.{items_flaws, factors_flaws, args_flaws, Finds}
 use Rattle.flp_check.proofs.text.Search.+expr.Given as goal
 

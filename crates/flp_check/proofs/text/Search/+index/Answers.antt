@@ -1,6 +1,6 @@
 use Rattle.std.proofs.lemmas.List.{drop_all}
 use Rattle.flp_syntax.specs.View.{index_of_Number, index_of_Var, index_of_Add, index_of_Mul}
-use Rattle.flp_check.proofs.Rests.{rest_indices, rest_index_items}
+use Rattle.flp_syntax.proofs.Rests.{rest_indices, rest_index_items}
 use Rattle.flp_check.proofs.Finding.{finds_none, finds_more}
 use Rattle.flp_check.proofs.text.Search.+index.Goals as goal
 
@@ -8,7 +8,7 @@ pub index-returns-in-Number : goal.index-returns-in-Number
 index-returns-in-Number t c = rw (c.in-Number.is, index_of_Number) (finds_none _)
 
 pub index-returns-in-Var : goal.index-returns-in-Var
-index-returns-in-Var t c = rw (c.in-Var.is, index_of_Var) c.used.ensures
+index-returns-in-Var t c = rw (c.in-Var.is, index_of_Var) c.note_unbound.ensures
 
 pub index-returns-in-Add : goal.index-returns-in-Add
 index-returns-in-Add t c = rw (c.in-Add.is, index_of_Add, ← c.as_slice.ensures) c.index_items.ensures

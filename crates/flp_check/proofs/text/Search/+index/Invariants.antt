@@ -2,7 +2,7 @@ use Rattle.std.proofs.Common.{Option, map, drop}
 use Rattle.flp_syntax.specs.Tree.{index_items, indices}
 use Rattle.flp_syntax.specs.View.{index_of, index_item_of}
 use Rattle.flp_check.specs.declared.flaw.Flaw.{Flaw}
-use Rattle.flp_check.specs.Held.{names_of}
+use Rattle.flp_syntax.specs.View.{names_of}
 use Rattle.flp_check.specs.Flaws.{index_items_flaws, indices_flaws, Finds}
 use Rattle.flp_check.proofs.text.Search.+index.Given as goal
 

@@ -1,5 +1,5 @@
 use Rattle.flp_syntax.specs.View.{statement_of_Check, statement_of_Out, statement_of_Each}
-use Rattle.flp_check.proofs.Rests.{rest_statements}
+use Rattle.flp_syntax.proofs.Rests.{rest_statements}
 use Rattle.flp_check.proofs.Finding.{finds_more}
 use Rattle.flp_check.proofs.text.Search.+stmt.Goals as goal
 

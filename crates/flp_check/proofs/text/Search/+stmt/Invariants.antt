@@ -2,7 +2,7 @@ use Rattle.std.proofs.Common.{Option, map, drop}
 use Rattle.flp_syntax.specs.Tree.{statements}
 use Rattle.flp_syntax.specs.View.{statement_of, declaration_of}
 use Rattle.flp_check.specs.declared.flaw.Flaw.{Flaw}
-use Rattle.flp_check.specs.Held.{names_of}
+use Rattle.flp_syntax.specs.View.{names_of}
 use Rattle.flp_check.specs.Flaws.{stmts_flaws, Finds}
 use Rattle.flp_check.proofs.text.Search.+stmt.Given as goal
 

@@ -1,5 +1,5 @@
 use Rattle.flp_syntax.specs.View.{declaration_of}
-use Rattle.flp_check.proofs.Rests.{rest_next, front_next}
+use Rattle.flp_syntax.proofs.Rests.{rest_next, front_next}
 use Rattle.flp_check.proofs.Finding.{finds_more}
 use Rattle.flp_check.proofs.text.Search.declarations.Goals as goal
 

@@ -2,9 +2,10 @@ use Rattle.std.proofs.Common.{ℕ, List, map, refl, arith}
 use Rattle.flp_syntax.specs.Tree.{arguments}
 use Rattle.flp_syntax.specs.Scope.{inside}
 use Rattle.flp_syntax.specs.View.{program_of, tree_of, arg_of, tree_of_Number, tree_of_Var, tree_of_Joint, tree_of_Meas, tree_of_MeasOrZero, tree_of_Sum, tree_of_Call, tree_of_Add, tree_of_Mul, tree_of_Pow, arg_of_One, arg_of_Each}
-use Rattle.flp_check.specs.Events.{Event, tree_events, args_events, args_count}
-use Rattle.flp_check.specs.Held.{scope_of}
-use Rattle.flp_check.proofs.Rests.{rest_items, rest_trees, rest_args}
+use Rattle.flp_check.specs.Events.{Event, tree_events, args_events}
+use Rattle.flp_syntax.specs.Scope.{args_count}
+use Rattle.flp_syntax.specs.View.{scope_of}
+use Rattle.flp_syntax.proofs.Rests.{rest_items, rest_trees, rest_args}
 use Rattle.flp_check.proofs.Walking.{reaches_more, stops_front, stops_back, walks_more, handed_on, leads_on, leads_stop, leads_turn, leads_turn_stop}
 use Rattle.flp_check.proofs.Nodes.{tree_stops}
 use Rattle.flp_check.proofs.Meeting.{reaches_visits, tree_visits}

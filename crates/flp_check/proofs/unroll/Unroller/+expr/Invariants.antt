@@ -4,8 +4,10 @@ use Rattle.std.specs.List.{flat_map}
 use Rattle.flp_syntax.specs.Tree.{items, trees, arguments}
 use Rattle.flp_syntax.specs.Scope.{inside, numbers_from, turns}
 use Rattle.flp_syntax.specs.View.{tree_of, item_of, arg_of, program_of}
-use Rattle.flp_check.specs.Events.{tree_events, items_events, factors_events, args_events, args_count}
-use Rattle.flp_check.specs.Held.{scope_of, counts_of}
+use Rattle.flp_check.specs.Events.{tree_events, items_events, factors_events, args_events}
+use Rattle.flp_syntax.specs.Scope.{args_count}
+use Rattle.flp_check.specs.Held.{counts_of}
+use Rattle.flp_syntax.specs.View.{scope_of}
 use Rattle.flp_check.proofs.Walking.{Leads}
 use Rattle.flp_check.proofs.unroll.Unroller.+expr.Given as goal
 

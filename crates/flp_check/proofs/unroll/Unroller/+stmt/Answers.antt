@@ -3,8 +3,8 @@ use Rattle.flp_syntax.specs.Tree.{statements}
 use Rattle.flp_syntax.specs.Scope.{inside}
 use Rattle.flp_syntax.specs.View.{program_of, statement_of, statement_of_Check, statement_of_Out, statement_of_Each}
 use Rattle.flp_check.specs.Events.{Event, stmts_events}
-use Rattle.flp_check.specs.Held.{scope_of}
-use Rattle.flp_check.proofs.Rests.{rest_statements}
+use Rattle.flp_syntax.specs.View.{scope_of}
+use Rattle.flp_syntax.proofs.Rests.{rest_statements}
 use Rattle.flp_check.proofs.Walking.{stops_front, stops_back, walks_more, handed_on, leads_on, leads_stop, leads_turn, leads_turn_stop}
 use Rattle.flp_check.proofs.Nodes.{stmt_stops}
 use Rattle.flp_check.proofs.Turns.{scope_inside, take_front}

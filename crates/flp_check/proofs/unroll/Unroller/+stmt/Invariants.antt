@@ -4,7 +4,8 @@ use Rattle.flp_syntax.specs.Tree.{statements}
 use Rattle.flp_syntax.specs.Scope.{inside, numbers_from, turns}
 use Rattle.flp_syntax.specs.View.{statement_of, program_of}
 use Rattle.flp_check.specs.Events.{stmts_events}
-use Rattle.flp_check.specs.Held.{scope_of, counts_of}
+use Rattle.flp_check.specs.Held.{counts_of}
+use Rattle.flp_syntax.specs.View.{scope_of}
 use Rattle.flp_check.proofs.Walking.{Leads}
 use Rattle.flp_check.proofs.unroll.Unroller.+stmt.Given as goal
 

@@ -1,10 +1,10 @@
-use Rattle.std.proofs.Common.{ℕ, ◌-◌, ◌%◌, ◌^◌, ◌∙◌, ap, arith}
-use Rattle.std.proofs.lemmas.Nat.{one_shl}
-use Rattle.flp_field.specs.Word.{modulus}
-use Rattle.flp_field.proofs.RootsOfUnity.{generator-power}
+use Rattle.std.proofs.Common.{◌∙◌, arith}
+use Rattle.flp_field.proofs.TableLemmas.{root_word, root_at}
 use Rattle.flp_field.proofs.word.Fe.root.Goals as goal
+
+pub from_word-requires : goal.from_word-requires
+from_word-requires c = root_word c.args.log 0 (omega arith)
 
 pub returns : goal.returns
 returns c =
-    c.pow.ensures ∙ ap (λ (x : ℕ). 1753635133440165772 ^ x % modulus) (one_shl (32 - c.args.log) 64 (omega arith))
-    ∙ generator-power c.args.log c.requires
+    c.from_word.ensures ∙ root_at c.args.log c.requires

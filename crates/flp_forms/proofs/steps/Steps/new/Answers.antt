@@ -1,4 +1,5 @@
-use Rattle.std.proofs.Common.{ℕ, List, [], ◌∷◌, ◌++◌, ◌∙◌, ap, sym, arith}
+use Rattle.std.proofs.Common.{ℕ, List, [], ◌∷◌, ◌++◌, ◌∙◌, ap, sym, arith, map}
+use Rattle.std.specs.List.{range_with_len}
 use Rattle.std.proofs.lemmas.List.FromFn.{map-range_with_len_more}
 use Rattle.flp_forms.specs.declared.step.Step.{Step}
 use Rattle.flp_forms.specs.declared.step.Step.TheVariants.{Joint}
@@ -15,3 +16,7 @@ pub invariant_of-result : goal.invariant_of-result
 invariant_of-result c =
     joint_words_straight c.args.joint c.loop-word.word c.loop-word.items.items (omega arith) (omega arith)
     c.loop-word.invariant
+
+pub returns-clause-steps : goal.returns-clause-steps
+returns-clause-steps c =
+    c.loop-word.invariant ∙ ap (λ (n : ℕ). map (λ (word : ℕ). Joint word) (range_with_len 0 n)) (omega arith)

@@ -1,5 +1,6 @@
-use Rattle.std.proofs.Common.{arith}
+use Rattle.flp_forms.proofs.LineLemmas.{stands_first}
 use Rattle.flp_forms.proofs.steps.Steps.power.Goals as goal
 
-pub returns-clause-few : goal.returns-clause-few
-returns-clause-few c = omega (arith, c.raised.ensures.few 64 (omega arith))
+pub returns-then-exponent-eq1-clause-value : goal.returns-then-exponent-eq1-clause-value
+returns-then-exponent-eq1-clause-value c =
+    stands_first c.args.self.now c.args.base c.args.exponent c.requires c.if-exponent-eq1.true

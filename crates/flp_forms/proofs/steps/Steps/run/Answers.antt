@@ -16,5 +16,6 @@ loop-i-preserved c =
           within (omega arith)
           (subst (λ (steps : List Step). c.step-item.result ≡ get_or steps c.loop-i.i c.step-item.result)
           c.loop-i.invariant.same c.step-item.is)
-          c.loop-i.invariant.done c.value_of.ensures;
+          c.loop-i.invariant.done c.value_of.ensures.value;
+      last = c.value_of.ensures.last;
     }

@@ -3,7 +3,7 @@ use Rattle.std.specs.List.{flat_map}
 use Rattle.std.proofs.lemmas.List.{with_items_is}
 use Rattle.flp_share.specs.Shares.{shares_of}
 use Rattle.flp_report.specs.JobParts.{job_of}
-use Rattle.flp_jobs.specs.Encoding.{given_words, proof_numbers}
+use Rattle.flp_jobs.specs.Encoding.{given_words, job_proofs}
 use Rattle.flp_jobs.specs.Record.{unshared_words, own_words}
 use Rattle.flp_jobs.specs.Reading.{setting_of}
 use Rattle.flp_jobs.proofs.maker.Maker.make.Goals as goal
@@ -22,4 +22,4 @@ returns-clause-words c =
     ∙ (with_items_is maker.shares c.split.new.out (c.split.auto.out ∙ c.deref_mut-6.ensures.len)
     ∙ (c.split.ensures.shares ∙ ap₂ (λ (x words : List ℕ). shares_of by.shape.shares x words) unshared given)) in
     with_items_is maker.words c.write_words.new.words (c.write_words.auto.words ∙ c.deref_mut-7.ensures.len)
-    ∙ (c.write_words.ensures ∙ ap (λ (l : List ℕ). l ++ flat_map (own_words by.shape job) (proof_numbers by.shape)) shares)
+    ∙ (c.write_words.ensures ∙ ap (λ (l : List ℕ). l ++ flat_map (own_words by.shape job) (job_proofs by.shape)) shares)

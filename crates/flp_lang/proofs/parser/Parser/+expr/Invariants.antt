@@ -1,8 +1,8 @@
 use Rattle.std.proofs.Common.{◌≡◌, ◌≤◌, ◌<◌, ◌+◌, ◌*◌, ◌++◌, List, Bool, length, map}
 use Rattle.flp_syntax.specs.Tree.{Tree, Argument}
 use Rattle.flp_syntax.specs.View.{tree_of, item_of, arg_of}
-use Rattle.flp_lang.specs.Plan as plan
-use Rattle.flp_lang.specs.Plan.{Plan, next}
+use Rattle.flp_lang.specs.Ahead as ahead
+use Rattle.flp_lang.specs.Ahead.{Ahead, next}
 use Rattle.flp_lang.specs.Run.{run}
 use Rattle.flp_lang.proofs.parser.Parser.+expr.Given as goal
 
@@ -39,7 +39,7 @@ decreases-arg l = 7 * length l.self.now.rest.now + 5
 -- the parts so far, and those still to come
 abbrev pub invariant-more_terms-loop-minus : goal.invariant-more_terms-loop-minus
 invariant-more_terms-loop-minus l = record {
-  runs : (K : List (Bool × Tree) → Plan) → run (l.fn.level, 0) l.fn.self.at (next plan.terms K) l.fn.self.rest.now ≡ run (l.fn.level, 0) l.self.at (next plan.terms (λ more. K (map item_of l.items.items ++ more))) l.self.rest.now;
+  runs : (K : List (Bool × Tree) → Ahead) → run (l.fn.level, 0) l.fn.self.at (next ahead.terms K) l.fn.self.rest.now ≡ run (l.fn.level, 0) l.self.at (next ahead.terms (λ more. K (map item_of l.items.items ++ more))) l.self.rest.now;
   left : length l.self.rest.now ≤ length l.fn.self.rest.now;
 }
 
@@ -48,7 +48,7 @@ decreases-more_terms-loop-minus l = length l.self.rest.now
 
 abbrev pub invariant-more_factors-loop-self : goal.invariant-more_factors-loop-self
 invariant-more_factors-loop-self l = record {
-  runs : (K : List Tree → Plan) → run (l.fn.level, 0) l.fn.self.at (next plan.factors K) l.fn.self.rest.now ≡ run (l.fn.level, 0) l.self.at (next plan.factors (λ more. K (map tree_of l.factors.items ++ more))) l.self.rest.now;
+  runs : (K : List Tree → Ahead) → run (l.fn.level, 0) l.fn.self.at (next ahead.factors K) l.fn.self.rest.now ≡ run (l.fn.level, 0) l.self.at (next ahead.factors (λ more. K (map tree_of l.factors.items ++ more))) l.self.rest.now;
   left : length l.self.rest.now ≤ length l.fn.self.rest.now;
 }
 
@@ -57,7 +57,7 @@ decreases-more_factors-loop-self l = length l.self.rest.now
 
 abbrev pub invariant-args-loop-self : goal.invariant-args-loop-self
 invariant-args-loop-self l = record {
-  runs : (K : List Argument → Plan) → run (l.fn.level, 0) l.fn.self.at (next plan.args K) l.fn.self.rest.now ≡ run (l.fn.level, 0) l.self.at (next plan.more_args (λ more. K (map arg_of l.args.items ++ more))) l.self.rest.now;
+  runs : (K : List Argument → Ahead) → run (l.fn.level, 0) l.fn.self.at (next ahead.args K) l.fn.self.rest.now ≡ run (l.fn.level, 0) l.self.at (next ahead.more_args (λ more. K (map arg_of l.args.items ++ more))) l.self.rest.now;
   left : length l.self.rest.now < length l.fn.self.rest.now;
 }
 

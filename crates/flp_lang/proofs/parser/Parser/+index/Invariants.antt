@@ -1,8 +1,8 @@
 use Rattle.std.proofs.Common.{◌≡◌, ◌≤◌, ◌+◌, ◌*◌, ◌++◌, List, Bool, length, map}
 use Rattle.flp_syntax.specs.Tree.{Index}
 use Rattle.flp_syntax.specs.View.{index_of, index_item_of}
-use Rattle.flp_lang.specs.Plan as plan
-use Rattle.flp_lang.specs.Plan.{Plan, next}
+use Rattle.flp_lang.specs.Ahead as ahead
+use Rattle.flp_lang.specs.Ahead.{Ahead, next}
 use Rattle.flp_lang.specs.Run.{run}
 use Rattle.flp_lang.proofs.parser.Parser.+index.Given as goal
 
@@ -24,7 +24,7 @@ decreases-more_index_terms l = 3 * length l.self.now.rest.now + 1
 -- the factors so far, and those still to come
 abbrev pub invariant-more_index_factors-loop-self : goal.invariant-more_index_factors-loop-self
 invariant-more_index_factors-loop-self l = record {
-  runs : (K : List Index → Plan) → run (l.fn.level, 0) l.fn.self.at (next plan.index_factors K) l.fn.self.rest.now ≡ run (l.fn.level, 0) l.self.at (next plan.index_factors (λ more. K (map index_of l.factors.items ++ more))) l.self.rest.now;
+  runs : (K : List Index → Ahead) → run (l.fn.level, 0) l.fn.self.at (next ahead.index_factors K) l.fn.self.rest.now ≡ run (l.fn.level, 0) l.self.at (next ahead.index_factors (λ more. K (map index_of l.factors.items ++ more))) l.self.rest.now;
   left : length l.self.rest.now ≤ length l.fn.self.rest.now;
 }
 
@@ -34,7 +34,7 @@ decreases-more_index_factors-loop-self l = length l.self.rest.now
 -- the items so far, and those still to come
 abbrev pub invariant-more_index_terms-loop-minus : goal.invariant-more_index_terms-loop-minus
 invariant-more_index_terms-loop-minus l = record {
-  runs : (K : List (Bool × Index) → Plan) → run (l.fn.level, 0) l.fn.self.at (next plan.index_terms K) l.fn.self.rest.now ≡ run (l.fn.level, 0) l.self.at (next plan.index_terms (λ more. K (map index_item_of l.items.items ++ more))) l.self.rest.now;
+  runs : (K : List (Bool × Index) → Ahead) → run (l.fn.level, 0) l.fn.self.at (next ahead.index_terms K) l.fn.self.rest.now ≡ run (l.fn.level, 0) l.self.at (next ahead.index_terms (λ more. K (map index_item_of l.items.items ++ more))) l.self.rest.now;
   left : length l.self.rest.now ≤ length l.fn.self.rest.now;
 }
 

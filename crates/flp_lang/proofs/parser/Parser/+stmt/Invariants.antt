@@ -1,8 +1,8 @@
 use Rattle.std.proofs.Common.{◌≡◌, ◌<◌, ◌+◌, ◌*◌, ◌++◌, List, length, map}
 use Rattle.flp_syntax.specs.Tree.{Statement}
 use Rattle.flp_syntax.specs.View.{statement_of}
-use Rattle.flp_lang.specs.Plan as plan
-use Rattle.flp_lang.specs.Plan.{Plan, next}
+use Rattle.flp_lang.specs.Ahead as ahead
+use Rattle.flp_lang.specs.Ahead.{Ahead, next}
 use Rattle.flp_lang.specs.Run.{run}
 use Rattle.flp_lang.proofs.parser.Parser.+stmt.Given as goal
 
@@ -18,7 +18,7 @@ decreases-stmts l = 3 * length l.self.now.rest.now + 2
 -- the statements so far, and those still to come
 abbrev pub invariant-stmts-loop-self : goal.invariant-stmts-loop-self
 invariant-stmts-loop-self l = record {
-  runs : (K : List Statement → Plan) → run (l.fn.level, 0) l.fn.self.at (next plan.stmts K) l.fn.self.rest.now ≡ run (l.fn.level, 0) l.self.at (next plan.more_stmts (λ more. K (map statement_of l.stmts.items ++ more))) l.self.rest.now;
+  runs : (K : List Statement → Ahead) → run (l.fn.level, 0) l.fn.self.at (next ahead.stmts K) l.fn.self.rest.now ≡ run (l.fn.level, 0) l.self.at (next ahead.more_stmts (λ more. K (map statement_of l.stmts.items ++ more))) l.self.rest.now;
   left : length l.self.rest.now < length l.fn.self.rest.now;
 }
 

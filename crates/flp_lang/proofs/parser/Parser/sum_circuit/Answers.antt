@@ -1,5 +1,5 @@
 use Rattle.std.proofs.Common.{◌∙◌, refl}
-use Rattle.flp_lang.specs.Plan.{fixed}
+use Rattle.flp_lang.specs.Ahead.{fixed}
 use Rattle.flp_syntax.specs.declared.syntax.Params.TheVariants as params
 use Rattle.flp_syntax.specs.declared.token.Mark.TheVariants.{Semicolon}
 use Rattle.flp_lang.proofs.Moves.{fails}

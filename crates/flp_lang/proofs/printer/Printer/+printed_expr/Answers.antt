@@ -3,7 +3,7 @@ use Rattle.std.proofs.lemmas.List.{drop_all}
 use Rattle.flp_syntax.specs.Tree.{sum, add, items, trees, arguments, each_arg}
 use Rattle.flp_syntax.specs.View.{index_of, tree_of, item_of, arg_of, tree_of_Sum, tree_of_Add, arg_of_Each}
 use Rattle.flp_lang.specs.Print.{put_more_items, put_more_factors}
-use Rattle.flp_lang.specs.Spelling.{spelled_on}
+use Rattle.flp_lang.specs.Spelling.{rest_text}
 use Rattle.flp_lang.proofs.Writing.{first_left, item_of_out}
 use Rattle.flp_lang.proofs.printer.Printer.+printed_expr.Goals as goal
 
@@ -25,14 +25,14 @@ arg-returns-in_ok-args-in-Each t c =
 pub items-loop-item-preserved : goal.items-loop-item-preserved
 items-loop-item-preserved t c = λ s.
     c.loop-item.invariant s
-    ∙ ap (λ xs. c.loop-item.self.text.items ++ spelled_on (put_more_items (items xs) s)) (first_left item_of c.in-Some.more.now c.loop-item.item-index c.item-item.result _ c.loop-item-test.true c.item-item.is (item_of_out c.item-item.result))
+    ∙ ap (λ xs. c.loop-item.self.text.items ++ rest_text (put_more_items (items xs) s)) (first_left item_of c.in-Some.more.now c.loop-item.item-index c.item-item.result _ c.loop-item-test.true c.item-item.is (item_of_out c.item-item.result))
     ∙ c.in_ok-sign.ensures _ ∙ c.in_ok-item-2.ensures (put_more_items (items (map item_of (drop (c.loop-item.item-index + 1) c.in-Some.more.now))) s)
 
 pub items-returns : goal.items-returns
-items-returns t c = λ s. c.loop-item.invariant s ∙ ap (λ xs. c.loop-item.self.text.items ++ spelled_on (put_more_items (items (map item_of xs)) s)) (drop_all c.loop-item.item-index c.in-Some.more.now c.loop-item-test.false)
+items-returns t c = λ s. c.loop-item.invariant s ∙ ap (λ xs. c.loop-item.self.text.items ++ rest_text (put_more_items (items (map item_of xs)) s)) (drop_all c.loop-item.item-index c.in-Some.more.now c.loop-item-test.false)
 
 pub factors-loop-expr-preserved : goal.factors-loop-expr-preserved
 factors-loop-expr-preserved t c = λ s.
     c.loop-expr.invariant s
-    ∙ ap (λ xs. c.loop-expr.self.text.items ++ spelled_on (put_more_factors (trees xs) s)) (first_left tree_of c.in-Some.more.now c.loop-expr.expr-index c.expr-item.result _ c.loop-expr-test.true c.expr-item.is refl)
+    ∙ ap (λ xs. c.loop-expr.self.text.items ++ rest_text (put_more_factors (trees xs) s)) (first_left tree_of c.in-Some.more.now c.loop-expr.expr-index c.expr-item.result _ c.loop-expr-test.true c.expr-item.is refl)
     ∙ c.in_ok-mark.ensures _ ∙ c.in_ok-factor-2.ensures (put_more_factors (trees (map tree_of (drop (c.loop-expr.expr-index + 1) c.in-Some.more.now))) s)

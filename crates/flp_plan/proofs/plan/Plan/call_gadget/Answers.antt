@@ -1,4 +1,4 @@
-use Rattle.std.proofs.Common.{◌≡◌, ℕ, length, ap, sym, ◌∙◌, arith, rules, List}
+use Rattle.std.proofs.Common.{length, ap, ◌∙◌, arith, List}
 use Rattle.flp_meaning.specs.Gadgets.{call_count, call_gadget}
 use Rattle.flp_emit.specs.declared.code.CallForms.{CallForms}
 use Rattle.flp_syntax.specs.View.{program_of}

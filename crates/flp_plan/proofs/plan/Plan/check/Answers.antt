@@ -1,9 +1,8 @@
-use Rattle.std.proofs.Common.{◌≡◌, ◌<◌, ◌%◌, ℕ, List, length, ap, sym, ◌∙◌, arith, rules, subst, Some, slice_get}
-use Rattle.flp_meaning.specs.Circuit.{checks_of, answered}
+use Rattle.std.proofs.Common.{◌≡◌, length, ap, sym, ◌∙◌, arith, subst, Some, slice_get}
+use Rattle.flp_meaning.specs.Circuit.{checks_of, with_answers}
 use Rattle.flp_meaning.specs.Gadgets.{check_count, call_count}
-use Rattle.flp_forms.specs.LinearForms.{share_of}
+use Rattle.flp_forms.specs.LinearForms.{share_of, FormFits}
 use Rattle.flp_forms.specs.PublicValues.{publics}
-use Rattle.flp_emit.specs.Code.{FormFits}
 use Rattle.flp_syntax.specs.View.{program_of}
 use Rattle.flp_plan.specs.View.{Compiled, publics_of}
 use Rattle.flp_plan.proofs.FormLemmas.{all_at, form_found}
@@ -36,7 +35,7 @@ returns c joint same =
     let count = check_count-code (program_of c.self.inside.checked.body) c.self.inside.code c.self.invariant.tied in
     let seen = ap (λ (plan : Compiled). check_count plan.circuit) c.self.view_is in
     let there = form_found c.self.inside.code.checks c.args.index c.at.result.now (omega arith) c.at.ensures in
-    subst (λ (plan : Compiled). slice_get (checks_of plan.circuit (answered c.args.x.now joint c.args.unit c.args.answers.now)) c.args.index ≡ Some c.form_at.result)
+    subst (λ (plan : Compiled). slice_get (checks_of plan.circuit (with_answers c.args.x.now joint c.args.unit c.args.answers.now)) c.args.index ≡ Some c.form_at.result)
     c.self.view_is
     (check_value (program_of c.self.inside.checked.body) c.self.inside.code c.args.index c.at.result.now joint
     (share_of c.args.x.now c.args.answers.now c.args.unit) c.form_at.result c.self.invariant.tied

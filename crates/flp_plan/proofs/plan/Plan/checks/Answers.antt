@@ -1,4 +1,4 @@
-use Rattle.std.proofs.Common.{◌≡◌, ℕ, length, ap, sym, ◌∙◌, arith, rules}
+use Rattle.std.proofs.Common.{◌≡◌, length, ap, sym, ◌∙◌, arith}
 use Rattle.flp_meaning.specs.Gadgets.{check_count}
 use Rattle.flp_syntax.specs.View.{program_of}
 use Rattle.flp_plan.specs.View.{Compiled}

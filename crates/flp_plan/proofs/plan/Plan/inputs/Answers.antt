@@ -1,14 +1,14 @@
-use Rattle.std.proofs.Common.{◌≡◌, ◌+◌, ◌<◌, ◌≤◌, ℕ, List, length, take, drop, get_or, ap, sym, ◌∙◌, arith, rules, subst, refl}
-use Rattle.flp_meaning.specs.Circuit.{answered}
+use Rattle.std.proofs.Common.{◌≡◌, ℕ, List, length, take, drop, get_or, ap, sym, ◌∙◌, arith, subst, refl}
+use Rattle.flp_meaning.specs.Circuit.{with_answers}
 use Rattle.flp_meaning.specs.Gadgets.{arity_of, call_count, call_gadget}
-use Rattle.flp_forms.specs.LinearForms.{share_of}
+use Rattle.flp_forms.specs.LinearForms.{share_of, FormFits}
 use Rattle.flp_forms.specs.PublicValues.{publics}
 use Rattle.flp_emit.specs.declared.code.CallForms.{CallForms}
 use Rattle.flp_syntax.specs.View.{program_of}
-use Rattle.flp_emit.specs.Code.{FormFits, form_words}
+use Rattle.flp_emit.specs.Code.{form_words}
 use Rattle.flp_plan.specs.View.{Compiled, publics_of, HasInputs}
 use Rattle.flp_plan.proofs.FormLemmas.{range_all, words_by_one}
-use Rattle.flp_plan.proofs.TiedLemmas.{call_count-code, call_there, CallThere, inputs_fit, written_inputs}
+use Rattle.flp_plan.proofs.TiedLemmas.{call_count-code, call_there, inputs_fit, written_inputs}
 use Rattle.flp_plan.proofs.plan.Plan.inputs.Goals as goal
 
 pub bounds-as_slice-call : goal.bounds-as_slice-call
@@ -53,7 +53,7 @@ returns-clause-earlier c joint others same agree =
     words_by_one c.values.new.out values (share_of c.args.x.now c.args.answers.now c.args.unit) c.self.inside.code.inputs call.first
     (omega (arith, there.size, there.fit.ordered, there.fit.inside, c.values.auto.out))
     (c.values.ensures.reduced values (same ∙ ap (λ (plan : Compiled). publics_of plan joint) (sym c.self.view_is))) in
-    subst (λ (plan : Compiled). HasInputs plan.circuit (answered c.args.x.now joint c.args.unit others) c.args.call c.values.new.out)
+    subst (λ (plan : Compiled). HasInputs plan.circuit (with_answers c.args.x.now joint c.args.unit others) c.args.call c.values.new.out)
     c.self.view_is
     (written_inputs (program_of c.self.inside.checked.body) c.self.inside.code c.args.call call joint c.args.x.now c.args.answers.now others
     c.values.new.out c.args.unit (length c.values.new.out) c.self.invariant.tied

@@ -1,9 +1,8 @@
-use Rattle.std.proofs.Common.{◌≡◌, ◌<◌, ◌%◌, ℕ, List, [], length, ap, sym, ◌∙◌, arith, rules, subst, Some, slice_get, refl}
+use Rattle.std.proofs.Common.{◌≡◌, [], length, ap, sym, ◌∙◌, arith, subst, Some, slice_get, refl}
 use Rattle.flp_meaning.specs.Circuit.{outs_of}
 use Rattle.flp_meaning.specs.Gadgets.{out_count}
-use Rattle.flp_forms.specs.LinearForms.{share_of}
+use Rattle.flp_forms.specs.LinearForms.{share_of, FormFits}
 use Rattle.flp_forms.specs.PublicValues.{publics}
-use Rattle.flp_emit.specs.Code.{FormFits}
 use Rattle.flp_syntax.specs.View.{program_of}
 use Rattle.flp_plan.specs.View.{Compiled, publics_of}
 use Rattle.flp_plan.proofs.FormLemmas.{all_at, form_found}

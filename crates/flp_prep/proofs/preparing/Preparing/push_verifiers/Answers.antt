@@ -1,7 +1,7 @@
 use Rattle.std.proofs.Common.{ℕ, List, ◌++◌, ap, ◌∙◌}
 use Rattle.flp_verdict.specs.Judging.{verifier_of}
+use Rattle.flp_verdict.proofs.BehindLemmas.{more-behind}
 use Rattle.flp_prep.specs.Text.{digits_of}
-use Rattle.flp_prep.proofs.DigitLemmas.{more-behind}
 use Rattle.flp_prep.proofs.preparing.Preparing.push_verifiers.Goals as goal
 
 pub loop-proof-preserved : goal.loop-proof-preserved

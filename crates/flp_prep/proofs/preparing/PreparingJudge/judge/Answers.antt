@@ -5,7 +5,7 @@ use Rattle.flp_policy.specs.declared.verdict.Verdict.{Verdict}
 use Rattle.flp_policy.specs.declared.verdict.Verdict.TheVariants.{Accepted, Rejected}
 use Rattle.flp_worker.specs.Parts.{proof_numbers}
 use Rattle.flp_batch.specs.Setting.{Setting}
-use Rattle.flp_batch.proofs.OutcomeLemmas.{OnOk-map}
+use Rattle.std.proofs.lemmas.Result.{on_ok_weaker}
 use Rattle.flp_verdict.specs.Judging.{record_shape_of, verifier_of}
 use Rattle.flp_prep.specs.Text.{digits_of, verifier_digits}
 use Rattle.flp_prep.specs.Preparing.{setting_of, party_of}
@@ -29,6 +29,6 @@ returns-clause-line c =
     λ which.
     digits-same c.judge.new.self by party party report judged.ensures.alike.shape refl
     (λ (proof : ℕ) (below : proof < by.shape.proofs). judged.ensures.verifiers (answers judged.verdict which) party proof c.args.self.now.own_share below) in
-    OnOk-map c.push_line_for.result c.push_line_for.ensures (λ made earlier follows.
+    on_ok_weaker c.push_line_for.result (λ made earlier follows.
     line-made by party earlier report c.nonce.result.now kept _ _ judged.verdict c.clear.ensures.items made c.nonce.ensures
-    (judged.ensures.verdict earlier follows) same)
+    (judged.ensures.verdict earlier follows) same) c.push_line_for.ensures

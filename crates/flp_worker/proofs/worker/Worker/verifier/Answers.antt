@@ -18,27 +18,27 @@ fits-in shape seen share proof n size held room same below inside sized all hold
 pub overflow_mul-start-2 : goal.overflow_mul-start-2
 overflow_mul-start-2 c =
     let fits : (c.args.proof * c.self.inside.shape.shares + c.args.share) * c.len-size.result + c.len-size.result ≤ length c.deref-verifiers.result.now =
-    fits-in c.self.inside.shape c.args.self.now.shape c.args.share c.args.proof c.self.inside.scratch.lengths.verifier c.len-size.result (length c.deref-verifiers.result.now) (vec_len c.self.inside.verifiers)
+    fits-in c.self.inside.shape c.args.self.now.shape c.args.share c.args.proof c.self.inside.challenge.sizes.lengths.verifier c.len-size.result (length c.deref-verifiers.result.now) (vec_len c.self.inside.verifiers)
     (ap (λ (w : Working). w.shape) c.self.view_is) c.requires.share c.requires.proof (c.len-size.ensures ∙ c.self.invariant.for_sum) c.self.invariant.for_verifiers c.deref-verifiers.ensures.len in
     search rules
 
 pub overflow_add-result : goal.overflow_add-result
 overflow_add-result c =
     let fits : (c.args.proof * c.self.inside.shape.shares + c.args.share) * c.len-size.result + c.len-size.result ≤ length c.deref-verifiers.result.now =
-    fits-in c.self.inside.shape c.args.self.now.shape c.args.share c.args.proof c.self.inside.scratch.lengths.verifier c.len-size.result (length c.deref-verifiers.result.now) (vec_len c.self.inside.verifiers)
+    fits-in c.self.inside.shape c.args.self.now.shape c.args.share c.args.proof c.self.inside.challenge.sizes.lengths.verifier c.len-size.result (length c.deref-verifiers.result.now) (vec_len c.self.inside.verifiers)
     (ap (λ (w : Working). w.shape) c.self.view_is) c.requires.share c.requires.proof (c.len-size.ensures ∙ c.self.invariant.for_sum) c.self.invariant.for_verifiers c.deref-verifiers.ensures.len in
     search rules
 
 pub offset_bounds-verifiers-start : goal.offset_bounds-verifiers-start
 offset_bounds-verifiers-start c =
     let fits : (c.args.proof * c.self.inside.shape.shares + c.args.share) * c.len-size.result + c.len-size.result ≤ length c.deref-verifiers.result.now =
-    fits-in c.self.inside.shape c.args.self.now.shape c.args.share c.args.proof c.self.inside.scratch.lengths.verifier c.len-size.result (length c.deref-verifiers.result.now) (vec_len c.self.inside.verifiers)
+    fits-in c.self.inside.shape c.args.self.now.shape c.args.share c.args.proof c.self.inside.challenge.sizes.lengths.verifier c.len-size.result (length c.deref-verifiers.result.now) (vec_len c.self.inside.verifiers)
     (ap (λ (w : Working). w.shape) c.self.view_is) c.requires.share c.requires.proof (c.len-size.ensures ∙ c.self.invariant.for_sum) c.self.invariant.for_verifiers c.deref-verifiers.ensures.len in
     search rules
 
 pub slice_bounds-result-end : goal.slice_bounds-result-end
 slice_bounds-result-end c =
     let fits : (c.args.proof * c.self.inside.shape.shares + c.args.share) * c.len-size.result + c.len-size.result ≤ length c.deref-verifiers.result.now =
-    fits-in c.self.inside.shape c.args.self.now.shape c.args.share c.args.proof c.self.inside.scratch.lengths.verifier c.len-size.result (length c.deref-verifiers.result.now) (vec_len c.self.inside.verifiers)
+    fits-in c.self.inside.shape c.args.self.now.shape c.args.share c.args.proof c.self.inside.challenge.sizes.lengths.verifier c.len-size.result (length c.deref-verifiers.result.now) (vec_len c.self.inside.verifiers)
     (ap (λ (w : Working). w.shape) c.self.view_is) c.requires.share c.requires.proof (c.len-size.ensures ∙ c.self.invariant.for_sum) c.self.invariant.for_verifiers c.deref-verifiers.ensures.len in
     search rules

@@ -1,0 +1,3 @@
+-- What is answered as it is to be.
+-- answers that are as a case says
+pub mod Wanted

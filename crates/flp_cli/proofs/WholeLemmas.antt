@@ -1,0 +1,273 @@
+-- The ends of `prove` and `lengths`, which write nothing before they know their reply, in the words of their dutys.
+use Rattle.std.proofs.Common.{◌≡◌, ℕ, ◌≤◌, Bool, Option, None, Some, Result, Ok, Err, List, [], ◌∷◌, length, take, refl, sym, ap, subst, ◌∙◌, inl, inr, ◌⊎◌, ⊎_elim, arith}
+use Rattle.std.specs.Prelude.{◌≢◌, IfSome, IfErr, IsTrue, OnOk}
+use Rattle.std.specs.Io.KnownBytes.{Appends, Keeps}
+use Rattle.std.proofs.KnownBytes.{Consumes-nil, Keeps-refl}
+use Rattle.std.proofs.lemmas.Grind.{common_steps}
+use Rattle.flp_io.specs.Writes.{TakesPrefix}
+use Rattle.flp_syntax.specs.declared.syntax.Params.{Params}
+use Rattle.flp_syntax.specs.Tree.{Program}
+use Rattle.flp_report.specs.declared.fault.BatchFault.{BatchFault}
+use Rattle.flp_load.specs.Loaded.{IsLoaded}
+use Rattle.flp_load.specs.Laws as load
+use Rattle.flp_policy.specs.Counts.{VerdictCounts}
+use Rattle.flp_batch.specs.declared.fault.EngineFault.{EngineFault}
+use Rattle.flp_batch.specs.declared.fault.EngineFault.TheVariants.{Memory, Read, Write, Batch, Circuit}
+use Rattle.flp_batch.specs.Format.{job_files, front_size}
+use Rattle.flp_batch.specs.Ends.{Ends}
+use Rattle.flp_batch.specs.Fault.{IfFile}
+use Rattle.flp_jobs.specs.declared.fault.ProveFault.{ProveFault}
+use Rattle.flp_jobs.specs.declared.fault.ProveFault.TheVariants.{File, Place}
+use Rattle.flp_jobs.specs.Fault.{IfJobs}
+use Rattle.flp_jobs.specs.Laws as jobs
+use Rattle.flp_jobs.specs.Record.{batch_made}
+use Rattle.flp_jobs.specs.Reply.{ProveEnds, WritesBatch, StopsInBatch, IsRefusal}
+use Rattle.flp_verify.specs.Text.{verdict_lines}
+use Rattle.flp_prep.specs.Text.{prepared_lines}
+use Rattle.flp_explain.specs.Text.{explained_lines}
+use Rattle.flp_words.specs.declared.command.Command.{Command}
+use Rattle.flp_words.specs.declared.command.Command.TheVariants.{Verify, Prove, Lengths, Prep, Explain}
+use Rattle.flp_io.specs.Reads.{ConsumesAtMost}
+use Rattle.flp_lengths.specs.Reading.{judged_text}
+use Rattle.flp_lengths.specs.Reply.{WritesLengths, StopsInLengths, StopsBy, IsFaultOfText}
+use Rattle.flp_lengths.specs.Text.{lengths_text}
+use Rattle.flp_lines.specs.Fault.{memory_line}
+use Rattle.flp_cli.specs.Answers.{IsRefusalStatus, is_one_of, engine_status, file_status, status_of, by_file}
+use Rattle.flp_cli.specs.Runs.{Done, Refused, Writes, Runs}
+use Rattle.flp_cli.specs.Ends.{HasOneReply, RefusesInput, EndsAs}
+use Rattle.flp_cli.specs.Commands.{Reports, prove_duty, lengths_duty, duty_of}
+use Rattle.flp_cli.specs.Stream.{Stream, Says}
+use Rattle.flp_cli.proofs.StatusLemmas.{file-status}
+use Rattle.flp_cli.proofs.BatchLemmas.{NeverBoth, OneFault, batch-one, lines-one, batch-unread}
+use Rattle.flp_cli.proofs.RunLemmas.{not_refused, run-memory, still, within-none}
+
+-- ---- `prove`
+
+pub prove-one : jobs.NeverBoth → jobs.OneRefusal → HasOneReply prove_duty
+prove-one never one bytes (Done a) (Done b) x y = refl
+prove-one never one bytes (Done a) (Refused f) x y = absurd (never bytes x.setting f x.provable y)
+prove-one never one bytes (Refused f) (Done b) x y = absurd (never bytes y.setting f y.provable x)
+prove-one never one bytes (Refused f) (Refused g) x y = ap status_of (one bytes f g x y)
+
+prove-done : (input output : Stream) → WritesBatch input.old input.new output.old output.new → Writes prove_duty Appends input output
+prove-done input output done = record {
+  bytes = done.bytes;
+  text = batch_made done.setting done.bytes;
+  read = done.read;
+  ended = done.ended;
+  replied = record { setting = done.setting; provable = done.provable; made = refl };
+  written = done.written;
+}
+
+prove-late : (input output : Stream) → StopsInBatch input.old input.new output.old output.new → Writes prove_duty TakesPrefix input output
+prove-late input output done = record {
+  bytes = done.bytes;
+  text = batch_made done.setting done.bytes;
+  read = done.read;
+  ended = done.ended;
+  replied = record { setting = done.setting; provable = done.provable; made = refl };
+  written = done.written;
+}
+
+file-known : (fault : BatchFault) → IsTrue (is_one_of (file_status fault) (6 ∷ 7 ∷ 8 ∷ []))
+file-known fault = ⊎_elim (λ (six : file_status fault ≡ 6). rw six refl) (λ (seven : file_status fault ≡ 7). rw seven refl) (file-status fault)
+
+not_write : (fault : BatchFault) → file_status fault ≡ 5 → ⊥
+not_write fault is = ⊎_elim (λ (six : file_status fault ≡ 6). omega arith) (λ (seven : file_status fault ≡ 7). omega arith) (file-status fault)
+
+prove-refused : (input : Stream) (fault : ProveFault) → IfJobs fault (λ f. IfSome input.old (λ bytes. IsRefusal bytes f)) → IsRefusalStatus (status_of fault)
+    → RefusesInput prove_duty input fault
+prove-refused input (File Memory) told is = not_refused 3 (λ six. omega arith) (λ seven. omega arith) (λ eight. omega arith) is
+prove-refused input (File Read) told is = not_refused 4 (λ six. omega arith) (λ seven. omega arith) (λ eight. omega arith) is
+prove-refused input (File Write) told is = not_refused 5 (λ six. omega arith) (λ seven. omega arith) (λ eight. omega arith) is
+prove-refused input (File (Batch f)) told is = record { known = file-known f; replied = told }
+prove-refused input (File (Circuit f)) told is = record { known = refl; replied = told }
+prove-refused input (Place p f) told is = record { known = refl; replied = told }
+
+prove-early : (input output : Stream) (fault : ProveFault) → (fault ≢ File Write → Keeps output.old output.new)
+    → (fault ≡ File Write → StopsInBatch input.old input.new output.old output.new)
+    → prove_duty.early (status_of fault) input output ⊎ ((fault ≡ File Write) × Writes prove_duty TakesPrefix input output)
+prove-early input output (File Memory) kept stopped = inl ((λ is. omega arith), kept (λ is. cc))
+prove-early input output (File Read) kept stopped = inl ((λ is. omega arith), kept (λ is. cc))
+prove-early input output (File Write) kept stopped = inr (refl, prove-late input output (stopped refl))
+prove-early input output (File (Batch f)) kept stopped = inl (not_write f, kept (λ is. cc))
+prove-early input output (File (Circuit f)) kept stopped = inl ((λ is. omega arith), kept (λ is. cc))
+prove-early input output (Place p f) kept stopped = inl ((λ is. omega arith), kept (λ is. cc))
+
+-- whichever way it ended
+pub prove-ends : {T : Type 0} (input output : Stream) (result : Result T ProveFault)
+    → OnOk result (WritesBatch input.old input.new output.old output.new)
+    → IfErr result (λ fault. fault ≢ File Write → Keeps output.old output.new)
+    → (result ≡ Err (File Write) → StopsInBatch input.old input.new output.old output.new)
+    → ProveEnds input.old input.new input.faults input.faults_now output.faults output.faults_now result
+    → EndsAs prove_duty input output result
+prove-ends input output (Ok value) done kept stopped ends = record {
+  done = prove-done input output done;
+  stopped = tt;
+  refused = tt;
+  read = λ is. cc;
+  write = λ is. cc;
+  takes = ends.few;
+}
+prove-ends input output (Err fault) done kept stopped ends = record {
+  done = tt;
+  stopped = prove-early input output fault kept (λ is. stopped (ap Err is));
+  refused = prove-refused input fault ends.fault;
+  read = ends.read;
+  write = ends.write;
+  takes = ends.few;
+}
+
+-- ---- `lengths`
+
+no_fault : load.NeverBoth → (bytes : List ℕ) (fault : EngineFault) (params : Option Params) (circuit : Program) → IsLoaded (judged_text bytes) params circuit → IsFaultOfText bytes fault → ⊥
+no_fault never bytes Memory params circuit loaded is = is
+no_fault never bytes Read params circuit loaded is = is
+no_fault never bytes Write params circuit loaded is = is
+no_fault never bytes (Batch f) params circuit loaded is = is
+no_fault never bytes (Circuit f) params circuit loaded is = never (judged_text bytes) params circuit f loaded is
+
+-- every fault of a text has status 7
+text-status : (bytes : List ℕ) (fault : EngineFault) → IsFaultOfText bytes fault → engine_status fault ≡ 7
+text-status bytes Memory is = absurd is
+text-status bytes Read is = absurd is
+text-status bytes Write is = absurd is
+text-status bytes (Batch f) is = absurd is
+text-status bytes (Circuit f) is = refl
+
+pub lengths-one : load.NeverBoth → HasOneReply lengths_duty
+lengths-one never bytes (Done a) (Done b) x y = refl
+lengths-one never bytes (Done a) (Refused (File f)) x y = absurd (no_fault never bytes f x.params x.circuit x.loaded y)
+lengths-one never bytes (Done a) (Refused (Place p f)) x y = absurd y
+lengths-one never bytes (Refused (File f)) (Done b) x y = absurd (no_fault never bytes f y.params y.circuit y.loaded x)
+lengths-one never bytes (Refused (File f)) (Refused (File g)) x y = text-status bytes f x ∙ sym (text-status bytes g y)
+lengths-one never bytes (Refused (File f)) (Refused (Place p g)) x y = absurd y
+lengths-one never bytes (Refused (Place p f)) other x y = absurd x
+
+-- a text that was read to its end has no byte behind the first 65,537
+all-taken : (most : ℕ) (text : List ℕ) → length text ≤ most → text ≡ take most text
+all-taken most text few = grind (arith, common_steps)
+
+whole-text : (text : List ℕ) → length text ≤ 65537 → text ≡ judged_text text
+whole-text text few = all-taken 65537 text few
+
+lengths-done : (input output : Stream) → WritesLengths input.old input.new output.old output.new → Writes lengths_duty Appends input output
+lengths-done input output done =
+    let reads = done.read in
+    record {
+      bytes = reads.text;
+      text = lengths_text done.circuit;
+      read = reads.read.read;
+      ended = reads.ended;
+      replied = record {
+        params = done.params;
+        circuit = done.circuit;
+        made = refl;
+        loaded = subst (λ (t : List ℕ). IsLoaded t done.params done.circuit) (whole-text reads.text reads.read.few) reads.loaded;
+      };
+      written = done.written;
+    }
+
+lengths-late : (input output : Stream) → StopsInLengths input.old input.new output.old output.new → Writes lengths_duty TakesPrefix input output
+lengths-late input output done =
+    let reads = done.read in
+    record {
+      bytes = reads.text;
+      text = lengths_text done.circuit;
+      read = reads.read.read;
+      ended = reads.ended;
+      replied = record {
+        params = done.params;
+        circuit = done.circuit;
+        made = refl;
+        loaded = subst (λ (t : List ℕ). IsLoaded t done.params done.circuit) (whole-text reads.text reads.read.few) reads.loaded;
+      };
+      written = done.written;
+    }
+
+lengths-early : (input output : Stream) (fault : EngineFault) → StopsBy fault input.old input.new output.old output.new
+    → lengths_duty.early (engine_status fault) input output ⊎ ((File fault ≡ File Write) × Writes lengths_duty TakesPrefix input output)
+lengths-early input output Memory stopped = inl (record { nothing = ((λ is. omega arith), stopped); judged = λ is. absurd (omega arith) })
+lengths-early input output Read stopped = inl (record { nothing = ((λ is. omega arith), stopped); judged = λ is. absurd (omega arith) })
+lengths-early input output Write stopped = inr (refl, lengths-late input output stopped)
+lengths-early input output (Batch f) stopped = absurd stopped
+lengths-early input output (Circuit f) stopped = inl (record { nothing = ((λ is. omega arith), stopped.0); judged = λ _. (f, stopped.1) })
+
+lengths-refused : (input output : Stream) (fault : EngineFault) → StopsBy fault input.old input.new output.old output.new
+    → IfFile fault (λ f. IfSome input.old (λ bytes. IsFaultOfText bytes f)) → IsRefusalStatus (engine_status fault) → RefusesInput lengths_duty input (File fault)
+lengths-refused input output Memory stopped told is = not_refused 3 (λ six. omega arith) (λ seven. omega arith) (λ eight. omega arith) is
+lengths-refused input output Read stopped told is = not_refused 4 (λ six. omega arith) (λ seven. omega arith) (λ eight. omega arith) is
+lengths-refused input output Write stopped told is = not_refused 5 (λ six. omega arith) (λ seven. omega arith) (λ eight. omega arith) is
+lengths-refused input output (Batch f) stopped told is = absurd stopped
+lengths-refused input output (Circuit f) stopped told is = record { known = refl; replied = told }
+
+-- whichever way it ended
+pub lengths-ends : {T : Type 0} (input output : Stream) (result : Result T EngineFault)
+    → OnOk result (WritesLengths input.old input.new output.old output.new)
+    → IfErr result (λ fault. StopsBy fault input.old input.new output.old output.new)
+    → Ends IsFaultOfText (ConsumesAtMost 65537) input.old input.new input.faults input.faults_now output.faults output.faults_now result
+    → EndsAs lengths_duty input output (by_file result)
+lengths-ends input output (Ok value) done stopped ends = record {
+  done = lengths-done input output done;
+  stopped = tt;
+  refused = tt;
+  read = λ is. cc;
+  write = λ is. cc;
+  takes = ends.few;
+}
+lengths-ends input output (Err fault) done stopped ends = record {
+  done = tt;
+  stopped = lengths-early input output fault stopped;
+  refused = lengths-refused input output fault stopped ends.fault;
+  read = λ is. let same : fault ≡ Read = cc is in ends.read (ap Err same);
+  write = λ is. let same : fault ≡ Write = cc is in ends.write (ap Err same);
+  takes = ends.few;
+}
+
+-- ---- one reply, whichever the command
+
+pub one-reply : NeverBoth → OneFault → jobs.NeverBoth → jobs.OneRefusal → load.NeverBoth
+    → (would : VerdictCounts → List Bool) (command : Command) → HasOneReply (duty_of would command)
+one-reply never fault jobs refusal text would (Verify workers) = batch-one never fault None verdict_lines (Reports would)
+one-reply never fault jobs refusal text would Prove = prove-one jobs refusal
+one-reply never fault jobs refusal text would Lengths = lengths-one text
+one-reply never fault jobs refusal text would (Prep party) = lines-one never fault (Some party) (prepared_lines party)
+one-reply never fault jobs refusal text would Explain = lines-one never fault None explained_lines
+
+-- ---- no memory for the words
+
+pub prove-unread : (left taken : Option (List ℕ)) (reads writes : ℕ) (errors : Stream) → Says errors memory_line
+    → Runs prove_duty (still left reads) (still taken writes) errors 3
+prove-unread left taken reads writes errors line =
+    run-memory prove_duty (still left reads) (still taken writes) errors
+    ((λ is. omega arith), Keeps-refl taken) (inl (within-none (front_size job_files) left)) line
+
+pub lengths-unread : (left taken : Option (List ℕ)) (reads writes : ℕ) (errors : Stream) → Says errors memory_line
+    → Runs lengths_duty (still left reads) (still taken writes) errors 3
+lengths-unread left taken reads writes errors line =
+    let none : 0 ≤ 65537 = omega arith in
+    run-memory lengths_duty (still left reads) (still taken writes) errors
+    (record { nothing = ((λ is. omega arith), Keeps-refl taken); judged = λ is. absurd (omega arith) })
+    (record { bytes = []; few = none; gone = Consumes-nil left }) line
+
+-- ---- no memory for the words, whatever they name
+
+pub unread : (would : VerdictCounts → List Bool) (command : Command) (left taken : Option (List ℕ)) (reads writes : ℕ) (errors : Stream) → Says errors memory_line
+    → Runs (duty_of would command) (still left reads) (still taken writes) errors 3
+unread would (Verify workers) left taken reads writes errors line = batch-unread None verdict_lines (Reports would) left taken reads writes errors line
+unread would Prove left taken reads writes errors line = prove-unread left taken reads writes errors line
+unread would Lengths left taken reads writes errors line = lengths-unread left taken reads writes errors line
+unread would (Prep party) left taken reads writes errors line =
+    batch-unread (Some party) (prepared_lines party) (λ by records text. text ≡ prepared_lines party by records) left taken reads writes errors line
+unread would Explain left taken reads writes errors line =
+    batch-unread None explained_lines (λ by records text. text ≡ explained_lines by records) left taken reads writes errors line
+
+-- the end and the run of a command that has another name
+pub end-for : {T : Type 0} (would : VerdictCounts → List Bool) (command other : Command) (input output : Stream) (result : Result T ProveFault) → command ≡ other
+    → EndsAs (duty_of would command) input output result → EndsAs (duty_of would other) input output result
+end-for would command other input output result same ends = subst (λ (c : Command). EndsAs (duty_of would c) input output result) same ends
+
+pub run-for : (would : VerdictCounts → List Bool) (command other : Command) (input output errors : Stream) (status : ℕ) → command ≡ other
+    → Runs (duty_of would command) input output errors status → Runs (duty_of would other) input output errors status
+run-for would command other input output errors status same runs =
+    subst (λ (c : Command). Runs (duty_of would c) input output errors status) same runs

@@ -1,0 +1,10 @@
+-- which nonces are in a list
+pub mod AmongLemmas
+-- one element more in a list, at its place in an order
+pub mod InsertLemmas
+-- nonces in rising order
+pub mod RisingLemmas
+-- the search by bisection
+pub mod BisectLemmas
+-- what is known behind old claims
+pub mod MetLemmas

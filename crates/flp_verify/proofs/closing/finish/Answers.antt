@@ -1,0 +1,41 @@
+use Rattle.std.proofs.Common.{◌≡◌, ◌∙◌, ℕ, List, ap, sym, subst, refl}
+use Rattle.std.specs.Io.KnownBytes.{Appends}
+use Rattle.flp_io.specs.Writes.{TakesPrefix}
+use Rattle.flp_report.specs.Nonces.{nonces_in}
+use Rattle.flp_tally.specs.Rows.{AreSums}
+use Rattle.flp_verdict.specs.Release.{ending_by}
+use Rattle.flp_verify.specs.Counted.{withheld_by, totals_of, totals_in}
+use Rattle.flp_verify.proofs.closing.finish.Goals as goal
+
+pub returns-in-Err-clause-front : goal.returns-in-Err-clause-front
+returns-in-Err-clause-front g c =
+    let counted = c.args.counted in
+    let same : c.as_slice.result.now ≡ totals_in counted =
+    c.as_slice.ensures.value ∙ (c.close_into.ensures.totals ∙ ap (λ (n : ℕ). totals_of n counted.seat.view.added) counted.sized) in
+    subst (λ (l : List ℕ). TakesPrefix (g.K.Sink.taken c.args.output.now) (g.K.Sink.taken c.write_ending.new.sink) (ending_by counted.numbers.accepted (withheld_by counted.end) l c.args.claims (nonces_in counted.known)))
+    same c.in-Err.ensures.front
+
+pub returns-clause-front : goal.returns-clause-front
+returns-clause-front g c =
+    let counted = c.args.counted in
+    let same : c.as_slice.result.now ≡ totals_in counted =
+    c.as_slice.ensures.value ∙ (c.close_into.ensures.totals ∙ ap (λ (n : ℕ). totals_of n counted.seat.view.added) counted.sized) in
+    subst (λ (l : List ℕ). TakesPrefix (g.K.Sink.taken c.args.output.now) (g.K.Sink.taken c.write_ending.new.sink) (ending_by counted.numbers.accepted (withheld_by counted.end) l c.args.claims (nonces_in counted.known)))
+    same c.in-Ok.ensures.front
+
+pub returns-clause-written : goal.returns-clause-written
+returns-clause-written g c =
+    let counted = c.args.counted in
+    let same : c.as_slice.result.now ≡ totals_in counted =
+    c.as_slice.ensures.value ∙ (c.close_into.ensures.totals ∙ ap (λ (n : ℕ). totals_of n counted.seat.view.added) counted.sized) in
+    subst (λ (l : List ℕ). Appends (g.K.Sink.taken c.args.output.now) (g.K.Sink.taken c.write_ending.new.sink) (ending_by counted.numbers.accepted (withheld_by counted.end) l c.args.claims (nonces_in counted.known)))
+    same c.in-Ok.ensures.whole
+
+pub returns-clause-summary : goal.returns-clause-summary
+returns-clause-summary g c =
+    let counted = c.args.counted in
+    record {
+      numbers = refl;
+      totals = c.from_vec.ensures ∙ (c.close_into.ensures.totals ∙ ap (λ (n : ℕ). totals_of n counted.seat.view.added) counted.sized);
+      sums = subst (λ (l : List ℕ). AreSums counted.seat.view.added l) (sym c.from_vec.ensures) c.close_into.ensures.sums;
+    }

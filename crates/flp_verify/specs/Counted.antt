@@ -1,0 +1,34 @@
+-- What is known of a batch whose records were all verified, and what is printed of it.
+use Rattle.std.specs.Prelude.{◌≡◌, ℕ, List, Bool, Option, None, Some, map}
+use Rattle.std.specs.List.{range_with_len}
+use Rattle.flp_report.specs.Nonces.{nonces_in}
+use Rattle.flp_tally.specs.declared.view.Entry.{Entry}
+use Rattle.flp_tally.specs.Rows.{total_of, AreSums}
+use Rattle.flp_verdict.specs.Release.{ending_by}
+use Rattle.flp_verify.specs.declared.counted.End.{End}
+use Rattle.flp_verify.specs.declared.counted.End.TheVariants.{Released, Withheld}
+use Rattle.flp_verify.specs.declared.counted.Counted.{Counted}
+use Rattle.flp_verify.specs.declared.counted.Summary.{Summary}
+
+-- the policy that withholds the aggregate, if one does
+abbrev pub withheld_by : End → Option ℕ
+withheld_by Released = None
+withheld_by (Withheld policy) = Some policy
+
+-- what entries come to at each of so many elements
+abbrev pub totals_of : ℕ → List Entry → List ℕ
+totals_of elements added = map (λ e. total_of e added) (range_with_len 0 elements)
+
+-- what the rows that its seat added come to
+abbrev pub totals_in : Counted → List ℕ
+totals_in counted = totals_of counted.outs counted.seat.view.added
+
+-- what is printed of it behind the lines of its records
+abbrev pub ending_of : Counted → (claims : Bool) → List ℕ
+ending_of counted claims = ending_by counted.numbers.accepted (withheld_by counted.end) (totals_in counted) claims (nonces_in counted.known)
+
+-- its numbers, and what its seat's rows come to
+pub record IsSummary (counted : Counted) (summary : Summary) : Type 0 where
+  pub numbers : summary.numbers ≡ counted.numbers
+  pub totals : summary.totals ≡ totals_in counted
+  pub sums : AreSums counted.seat.view.added summary.totals

@@ -1,0 +1,100 @@
+//! The end of a batch: its sums are closed, and what follows the lines of its records is written.
+ghost use Rattle.std.specs.Prelude.{◌≡◌, ◌⊎◌, Err, IfOk, IfErr, OnOk, IsErr, IsOk, [], length};
+ghost use Rattle.std.specs.Io.KnownBytes.{Appends};
+ghost use Rattle.flp_io.specs.Faults.{Uses};
+ghost use Rattle.flp_io.specs.Writes.{TakesPrefix};
+ghost use Rattle.flp_report.specs.Nonces.{nonces_in};
+ghost use Rattle.flp_tally.specs.Held.{IsSeatOf};
+ghost use Rattle.flp_tally.specs.Rows.{AreSums};
+ghost use Rattle.flp_verdict.specs.Release.{ending_by};
+ghost use Rattle.flp_verify.specs.Counted.{withheld_by, totals_of, ending_of, IsSummary};
+
+use crate::EngineFault;
+use crate::counted::{Counted, End, Summary};
+use crate::ending::put_ending;
+use flp_field::Fe;
+use flp_io::{Block, Failed, Sink};
+use flp_list::List;
+use flp_report::Nonces;
+use flp_tally::{Seat, Tally};
+use std::alloc::Global;
+
+/// Ends a batch that was verified: closes its tally, and writes how many records are accepted, then the sums of their outs
+/// or the policy that withholds these, and with `claims` a line for each nonce that is known behind the batch.
+///
+/// The sums that are answered are those of the tally, also where a policy withholds them. An error is
+/// [`EngineFault::Memory`], before anything was written, or [`EngineFault::Write`], and then the output has taken a
+/// prefix of what was to be written.
+pub fn finish<K: Sink>(
+    alloc: Global,
+    counted: Counted,
+    output: &mut K,
+    claims: bool,
+) -> Result<Summary, EngineFault>
+    requires ready { K.ready output.old }
+    ensures summary { IfOk result (λ summary. IsSummary counted summary) }
+    ensures written { OnOk result (Appends (K.taken output.old) (K.taken output.new) (ending_of counted claims)) }
+    ensures front { TakesPrefix (K.taken output.old) (K.taken output.new) (ending_of counted claims) }
+    ensures kept { result ≡ Err EngineFault.Memory → output.new ≡ output.old }
+    ensures faults { IfErr result (λ fault. (fault ≡ EngineFault.Memory) ⊎ (fault ≡ EngineFault.Write)) }
+    ensures uses { Uses K.faults K.ready output.old output.new (result ≡ Err EngineFault.Write) (IsOk result) }
+{
+    let mut totals = vec![in alloc; Fe::ZERO; counted.outs as usize]?;
+    let mut block = Block::new(alloc)?;
+    let Counted {
+        outs: _,
+        numbers,
+        known,
+        end,
+        tally,
+        seat,
+    } = counted;
+    close_into(tally, seat, &mut totals);
+    match write_ending(
+        &mut block,
+        output,
+        numbers.accepted,
+        end,
+        totals.as_slice(),
+        claims,
+        &known,
+    ) {
+        Ok(()) => {}
+        Err(_) => return Err(EngineFault::Write),
+    }
+    Ok(Summary {
+        numbers,
+        totals: List::from_vec(totals),
+    })
+}
+
+/// Closes a tally into as many totals as it has elements.
+fn close_into(tally: Tally, seat: Seat, totals: &mut Vec<Fe>)
+    requires seat { IsSeatOf tally seat }
+    requires weight { seat.view.weight ≡ seat.view.full }
+    requires size { length totals.old.items ≡ tally.elements }
+    ensures totals { totals.new.items ≡ totals_of tally.elements seat.view.added }
+    ensures sums { AreSums seat.view.added totals.new.items }
+{
+    tally.close(seat, totals.as_mut_slice());
+}
+
+/// Writes all that follows the lines of the records, through an empty block.
+fn write_ending<K: Sink>(
+    block: &mut Block,
+    sink: &mut K,
+    accepted: u32,
+    end: End,
+    aggregate: &[Fe],
+    claims: bool,
+    known: &Nonces,
+) -> Result<(), Failed>
+    requires ready { K.ready sink.old }
+    requires empty { block.old ≡ [] }
+    ensures whole { OnOk result (Appends (K.taken sink.old) (K.taken sink.new) (ending_by accepted (withheld_by end) aggregate.now claims (nonces_in known.now))) }
+    ensures front { TakesPrefix (K.taken sink.old) (K.taken sink.new) (ending_by accepted (withheld_by end) aggregate.now claims (nonces_in known.now)) }
+    ensures uses { Uses K.faults K.ready sink.old sink.new (IsErr result) (IsOk result) }
+{
+    put_ending(block, sink, accepted, end, aggregate, claims, known)?;
+    block.flush(sink)
+}

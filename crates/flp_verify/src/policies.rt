@@ -1,0 +1,49 @@
+//! Those who may hold the aggregate back: each is told every verdict, and then they are asked in their order.
+ghost use Rattle.std.specs.Prelude.{◌≡◌, ◌<◌, ◌^◌, ◌-◌, ℕ, ◌∷◌, map, length, not, position};
+ghost use Rattle.flp_policy.specs.Counts.{VerdictCounts, one_more_in, no_more};
+
+use flp_policy::{Floor, Policy, Verdict};
+
+/// Tells each of the policies the next verdict, on a report of this bucket.
+pub(crate) fn tell_all(policies: &mut [Box<dyn Policy>], bucket: u32, verdict: Verdict)
+    requires { bucket < 256 }
+    ensures { (more : VerdictCounts) (of : ℕ) → map (λ p. would p more of) policies.new ≡ map (λ p. would p (one_more_in bucket verdict of more) of) policies.old }
+{
+    for policy in policies.iter_mut() {
+        tell_one(policy, bucket, verdict);
+    }
+}
+
+/// Tells one of them.
+fn tell_one(policy: &mut Box<dyn Policy>, bucket: u32, verdict: Verdict)
+    requires { bucket < 256 }
+    ensures { (more : VerdictCounts) (of : ℕ) → would policy.new more of ≡ would policy.old (one_more_in bucket verdict of more) of }
+{
+    policy.tell(bucket, verdict);
+}
+
+/// The number of the first policy that does not allow the release of this bucket, the floor being 0 and the others
+/// numbered from 1.
+pub(crate) fn first_refusal(floor: &Floor, policies: &[Box<dyn Policy>], bucket: u32) -> Option<u32>
+    requires bucket { bucket < 256 }
+    requires few { length policies.now < 2 ^ 32 - 1 }
+    ensures { result ≡ position not (⟦<Floor as Policy>⟧.would floor.now no_more bucket ∷ map (λ p. would p no_more bucket) policies.now) }
+{
+    if !floor.release(bucket) {
+        return Some(0);
+    }
+    for (index, policy) in policies.iter().enumerate() {
+        if !allows(policy, bucket) {
+            return Some(index as u32 + 1);
+        }
+    }
+    None
+}
+
+/// Whether one of them allows it.
+fn allows(policy: &Box<dyn Policy>, bucket: u32) -> bool
+    requires { bucket < 256 }
+    ensures { result ≡ would policy.now no_more bucket }
+{
+    policy.release(bucket)
+}

@@ -1,0 +1,36 @@
+-- The commands that `clap` is told of, from the options up to the program.
+use Rattle.std.specs.Prelude.{true, Some, codes}
+use Rattle.clap.specs.Words.{App, Rule, Text, new_app, new_rule, with_rule, with_subcommand}
+use Rattle.clap.specs.declared.builder.action.ArgAction.TheVariants.{Set}
+
+-- the option `--name`, which has one value and must be given
+abbrev pub required_option : Text → Rule
+required_option name = record (new_rule name) { long = Some name; required = true; action = Some Set }
+
+-- `verify --workers N`
+abbrev pub verify_app : App
+verify_app = with_rule (new_app (codes "verify")) (required_option (codes "workers"))
+
+-- `prove`
+abbrev pub prove_app : App
+prove_app = new_app (codes "prove")
+
+-- `lengths`
+abbrev pub lengths_app : App
+lengths_app = new_app (codes "lengths")
+
+-- `prep --party K`
+abbrev pub prep_app : App
+prep_app = with_rule (new_app (codes "prep")) (required_option (codes "party"))
+
+-- `explain`
+abbrev pub explain_app : App
+explain_app = new_app (codes "explain")
+
+-- the program, with the first two of its commands
+abbrev pub first_app : App
+first_app = with_subcommand (with_subcommand (new_app (codes "flp")) verify_app.top) prove_app.top
+
+-- the program, with a subcommand for each command
+abbrev pub flp_app : App
+flp_app = with_subcommand (with_subcommand (with_subcommand first_app lengths_app.top) prep_app.top) explain_app.top

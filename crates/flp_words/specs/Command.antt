@@ -1,0 +1,52 @@
+-- The command that the words of the command line name, from the words down to one option.
+use Rattle.std.specs.Prelude.{ℕ, ◌≤◌, List, [], ◌∷◌, Option, Some, None, ⊤, option_map, option_and_then, if◌then◌else◌, codes}
+use Rattle.std.specs.Str.{bytes_eq}
+use Rattle.clap.specs.Words.{Kinds, Row, Text, fault_of, first_of, subcommand_of}
+use Rattle.flp_words.specs.declared.command.Command.{Command}
+use Rattle.flp_words.specs.declared.command.Command.TheVariants.{Verify, Prove, Lengths, Prep, Explain}
+use Rattle.flp_words.specs.Number.{number_in}
+use Rattle.flp_words.specs.Apps.{flp_app}
+
+-- 1 to 16 workers, and a party from 0 to 15
+abbrev pub IsInRange : Command → Type 0
+IsInRange (Verify workers) = (1 ≤ workers) × (workers ≤ 16)
+IsInRange (Prep party) = party ≤ 15
+IsInRange Prove = ⊤
+IsInRange Lengths = ⊤
+IsInRange Explain = ⊤
+
+-- the number of an option, where it is given and in the range
+abbrev pub number_of : List Row → Text → ℕ → ℕ → Option ℕ
+number_of rows name least most = option_and_then (number_in least most) (first_of name rows)
+
+-- `verify` with 1 to 16 workers
+abbrev pub verify_in : List Row → Option Command
+verify_in rows = option_map Verify (number_of rows (codes "workers") 1 16)
+
+-- `prep` for the party of a number from 0 to 15
+abbrev pub prep_in : List Row → Option Command
+prep_in rows = option_map Prep (number_of rows (codes "party") 0 15)
+
+-- the command of a name and the matches of its options
+abbrev pub command_by_name : Text → List Row → Option Command
+command_by_name name rows =
+    if bytes_eq name (codes "verify") then verify_in rows
+    else (if bytes_eq name (codes "prove") then Some Prove
+    else (if bytes_eq name (codes "lengths") then Some Lengths
+    else (if bytes_eq name (codes "prep") then prep_in rows
+    else (if bytes_eq name (codes "explain") then Some Explain
+    else None))))
+
+-- the command of the subcommand that `clap` met
+abbrev pub command_at : Option (Text × List Row) → Option Command
+command_at = option_and_then (λ met. command_by_name met.0 met.1)
+
+-- the command of words of which `clap` says these faults, or else that it met this subcommand
+abbrev pub command_by : Kinds → Option (Text × List Row) → Option Command
+command_by [] met = command_at met
+command_by (fault ∷ others) met = None
+
+-- the command of the words, the program's name first, by what `clap`'s definition says of them and of
+-- what it is told
+unfoldable pub command_in : List Text → Option Command
+command_in words = command_by (fault_of flp_app words) (subcommand_of flp_app words)

@@ -1,0 +1,109 @@
+//! Commands, and the one that the words name.
+ghost use Rattle.std.specs.Prelude.{◌≡◌, ◌≢◌, ◌≤◌, IfOk, IfSome, map, option_map, None};
+ghost use Rattle.clap.specs.Words.{first_of, found_of, kind_of, rows_of, subcommand_rows_of};
+ghost use Rattle.flp_words.specs.Command.{IsInRange, command_in, command_at, command_by_name, number_of, verify_in, prep_in};
+
+use crate::apps::flp_app;
+use crate::number::number_in;
+use clap::error::ErrorKind;
+use clap::{ArgMatches, Error};
+use std::alloc::{AllocError, Global};
+
+/// A command with its numbers.
+#[derive(Clone, Copy, Debug, PartialEq, Eq)]
+pub enum Command {
+    /// Verify a batch, with so many workers, from 1 to 16.
+    Verify(u32),
+    /// Make a batch of the measurements of a job file.
+    Prove,
+    /// Say the lengths of a circuit.
+    Lengths,
+    /// Make the verifiers of the share of this party, from 0 to 15.
+    Prep(u32),
+    /// Say which query word limits each false proof.
+    Explain,
+}
+
+/// The text that an option has.
+fn text_of<'a>(matches: &ArgMatches<'a>, name: &str) -> Option<&'a str>
+    ensures { option_map (λ s. s.now) result ≡ first_of name.now (rows_of (found_of matches.now)) }
+{
+    matches.get_str(name)
+}
+
+/// The number that an option has, where that is in the range.
+fn number_of(matches: &ArgMatches<'_>, name: &str, least: u32, most: u32) -> Option<u32>
+    ensures number { result ≡ number_of (rows_of (found_of matches.now)) name.now least most }
+    ensures range { IfSome result (λ number. (least ≤ number) × (number ≤ most)) }
+{
+    number_in(least, most, text_of(matches, name)?)
+}
+
+/// `verify`, with the number of its workers.
+fn verify_in(matches: &ArgMatches<'_>) -> Option<Command>
+    ensures command { result ≡ verify_in (rows_of (found_of matches.now)) }
+    ensures range { IfSome result IsInRange }
+{
+    Some(Command::Verify(number_of(matches, "workers", 1, 16)?))
+}
+
+/// `prep`, with the number of its party.
+fn prep_in(matches: &ArgMatches<'_>) -> Option<Command>
+    ensures command { result ≡ prep_in (rows_of (found_of matches.now)) }
+    ensures range { IfSome result IsInRange }
+{
+    Some(Command::Prep(number_of(matches, "party", 0, 15)?))
+}
+
+/// The command of a name and its matches.
+fn command_by_name(name: &str, matches: &ArgMatches<'_>) -> Option<Command>
+    ensures command { result ≡ command_by_name name.now (rows_of (found_of matches.now)) }
+    ensures range { IfSome result IsInRange }
+{
+    match name {
+        "verify" => verify_in(matches),
+        "prove" => Some(Command::Prove),
+        "lengths" => Some(Command::Lengths),
+        "prep" => prep_in(matches),
+        "explain" => Some(Command::Explain),
+        _ => None,
+    }
+}
+
+/// The command in the matches of the program's own words.
+fn command_at(matches: &ArgMatches<'_>) -> Option<Command>
+    ensures command { result ≡ command_at (subcommand_rows_of matches.now) }
+    ensures range { IfSome result IsInRange }
+{
+    let (name, inner) = matches.subcommand()?;
+    command_by_name(name, inner)
+}
+
+/// The answer where `clap` gives no matches: none for want of memory, else that there is no command.
+fn without_matches(error: &Error) -> Result<Option<Command>, AllocError>
+    ensures { IfOk result (λ found. (kind_of error.now ≢ ErrorKind.OutOfMemory) × (found ≡ None)) }
+{
+    match error.kind() {
+        ErrorKind::OutOfMemory => Err(AllocError),
+        _ => Ok(None),
+    }
+}
+
+/// The command that the words name, if they name one. The first of the words is the program's name
+/// and is not looked at.
+///
+/// A number is one to ten decimal digits, and in the range of its option. Each option stands at
+/// most once. A wish for help is no command.
+///
+/// # Errors
+/// Want of memory.
+pub fn command_of(alloc: Global, words: &[&str]) -> Result<Option<Command>, AllocError>
+    ensures command { IfOk result (λ found. found ≡ command_in (map (λ w. w.now) words.now)) }
+    ensures range { IfOk result (λ found. IfSome found IsInRange) }
+{
+    let app = flp_app(alloc)?;
+    match app.try_get_matches_from(words) {
+        Ok(matches) => Ok(command_at(&matches)),
+        Err(error) => without_matches(&error),
+    }
+}
