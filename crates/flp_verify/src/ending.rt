@@ -12,7 +12,11 @@ use flp_io::{Block, Failed, Sink};
 use flp_report::Nonces;
 
 /// Puts one piece.
-fn put_piece<K: Sink>(block: &mut Block, sink: &mut K, piece: &[u8]) -> Result<(), Failed>
+pub(crate) fn put_piece<K: Sink>(
+    block: &mut Block,
+    sink: &mut K,
+    piece: &[u8],
+) -> Result<(), Failed>
     requires { K.ready sink.old }
     ensures { Puts K.taken K.faults K.ready sink.old sink.new block.old block.new piece.now result }
 {
@@ -49,7 +53,11 @@ fn put_number_line<K: Sink>(
 }
 
 /// Puts a number in decimal digits.
-fn put_number<K: Sink>(block: &mut Block, sink: &mut K, number: u64) -> Result<(), Failed>
+pub(crate) fn put_number<K: Sink>(
+    block: &mut Block,
+    sink: &mut K,
+    number: u64,
+) -> Result<(), Failed>
     requires { K.ready sink.old }
     ensures { Puts K.taken K.faults K.ready sink.old sink.new block.old block.new (decimal number) result }
 {
@@ -58,7 +66,11 @@ fn put_number<K: Sink>(block: &mut Block, sink: &mut K, number: u64) -> Result<(
 }
 
 /// Puts a number with a space before it.
-fn put_spaced_number<K: Sink>(block: &mut Block, sink: &mut K, number: u64) -> Result<(), Failed>
+pub(crate) fn put_spaced_number<K: Sink>(
+    block: &mut Block,
+    sink: &mut K,
+    number: u64,
+) -> Result<(), Failed>
     requires { K.ready sink.old }
     ensures { Puts K.taken K.faults K.ready sink.old sink.new block.old block.new (codes " " ++ decimal number) result }
 {

@@ -18,8 +18,10 @@ mod counted;
 mod counting;
 mod ending;
 pub mod laws;
+mod lines;
 mod numbers;
 mod policies;
+mod telling;
 mod totals;
 
 pub use closing::finish;
