@@ -5,6 +5,8 @@ pub mod Text
 pub mod Totals
 -- what is kept over the records that were judged
 pub mod Counting
+-- which records are replayed
+pub mod Marks
 -- how many places have each verdict
 pub mod Numbers
 -- what is put through a block

@@ -18,6 +18,7 @@ mod counted;
 mod counting;
 mod ending;
 pub mod laws;
+mod marks;
 mod numbers;
 mod policies;
 mod totals;
