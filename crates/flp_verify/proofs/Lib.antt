@@ -10,3 +10,5 @@ pub mod EndingLemmas
 pub mod PutsLemmas
 -- policies that are told a verdict, and the first that does not allow the release
 pub mod ToldLemmas
+-- which records are replayed
+pub mod MarkLemmas

@@ -5,6 +5,8 @@ pub mod Text
 pub mod Totals
 -- what is kept over the records that were judged
 pub mod Counting
+-- which records are replayed
+pub mod Marks
 -- how many places have each verdict
 pub mod Numbers
 -- what is put through a block
@@ -17,3 +19,5 @@ pub mod Rows
 pub mod Laws
 -- what is told of the verdicts on a segment
 pub mod Told
+-- what is kept over the segments, and what one segment does to it
+pub mod Settled

@@ -130,7 +130,7 @@ fn pass_segment<R: Threads + Sync, K: Sink, G: Gate>(
     ensures sink { Uses K.faults K.ready output.old output.new (result ≡ Err EngineFault.Write) (IsOk result) }
 {
     let replayed = &mut room.marks[..count as usize];
-    mark(&mut ledger.known, &room.segment, replayed)?;
+    mark(&mut ledger.known, &room.segment, count, replayed)?;
     let board = board_for(alloc, ledger.board.take(), front)?;
     let board = verify_round(
         rt,

@@ -12,15 +12,20 @@
 //! that verifies one record.
 #![tactic(auto)]
 
+mod board;
 mod closing;
 mod command;
 mod counted;
 mod counting;
 mod ending;
+mod engine;
+mod front;
 pub mod laws;
 mod lines;
+mod marks;
 mod numbers;
 mod policies;
+mod room;
 mod telling;
 mod totals;
 
