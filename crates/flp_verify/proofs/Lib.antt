@@ -10,3 +10,7 @@ pub mod EndingLemmas
 pub mod PutsLemmas
 -- policies that are told a verdict, and the first that does not allow the release
 pub mod ToldLemmas
+-- verdicts that are told one after another
+pub mod TellingLemmas
+-- records beside their verdicts
+pub mod LineLemmas
