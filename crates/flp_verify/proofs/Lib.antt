@@ -12,3 +12,7 @@ pub mod PutsLemmas
 pub mod ToldLemmas
 -- which records are replayed
 pub mod MarkLemmas
+-- verdicts that are told one after another
+pub mod TellingLemmas
+-- records beside their verdicts
+pub mod LineLemmas

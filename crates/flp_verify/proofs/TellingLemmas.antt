@@ -1,0 +1,94 @@
+-- Verdicts that are told one after another: counts, and what policies answer afterwards.
+use Rattle.std.proofs.Common.{◌≡◌, ℕ, ◌+◌, ◌<◌, ◌≤◌, List, [], ◌∷◌, ◌++◌, length, take, get_or, map, Bool, not, Option, Some, refl, sym, ap, ap₂, ◌∙◌, subst, arith, append_assoc}
+use Rattle.std.specs.Prelude.{nat_le, position, slice_get}
+use Rattle.std.proofs.lemmas.List.{take_more, take_all}
+use Rattle.std.proofs.lemmas.Option.{slice_get_within, get_or_from_slice_get}
+use Rattle.flp_policy.specs.declared.verdict.Verdict.{Verdict}
+use Rattle.flp_policy.specs.declared.verdict.Verdict.TheVariants.{Accepted, Rejected, InDomain, Malformed, Replayed}
+use Rattle.flp_policy.specs.Counts.{VerdictCounts, no_more, one_more, one_more_in, counts_of}
+use Rattle.flp_verdict.specs.Release.{Answers, refusal}
+use Rattle.flp_verify.specs.Told.{told_in, AreTold}
+
+-- ---- counts
+
+-- from none on, told verdicts come to what they count
+pub told_in-counts : (vs : List Verdict) → told_in 0 vs 0 no_more ≡ counts_of vs
+told_in-counts [] = refl
+told_in-counts (v ∷ vs) = ap (one_more v) (told_in-counts vs)
+
+-- telling some and then others is telling both
+pub told_in-append : (bucket : ℕ) (xs ys : List Verdict) (of : ℕ) (n : VerdictCounts) → told_in bucket (xs ++ ys) of n ≡ told_in bucket xs of (told_in bucket ys of n)
+told_in-append bucket [] ys of n = refl
+told_in-append bucket (x ∷ xs) ys of n = ap (one_more_in bucket x of) (told_in-append bucket xs ys of n)
+
+-- it does not matter which of two verdicts is counted first
+swapped : (v w : Verdict) (n : VerdictCounts) → one_more v (one_more w n) ≡ one_more w (one_more v n)
+swapped Accepted Accepted n = refl
+swapped Accepted Rejected n = refl
+swapped Accepted (InDomain proof gadget) n = refl
+swapped Accepted (Malformed word) n = refl
+swapped Accepted Replayed n = refl
+swapped Rejected Accepted n = refl
+swapped Rejected Rejected n = refl
+swapped Rejected (InDomain proof gadget) n = refl
+swapped Rejected (Malformed word) n = refl
+swapped Rejected Replayed n = refl
+swapped (InDomain proof gadget) Accepted n = refl
+swapped (InDomain proof gadget) Rejected n = refl
+swapped (InDomain proof gadget) (InDomain proof' gadget') n = refl
+swapped (InDomain proof gadget) (Malformed word) n = refl
+swapped (InDomain proof gadget) Replayed n = refl
+swapped (Malformed word) Accepted n = refl
+swapped (Malformed word) Rejected n = refl
+swapped (Malformed word) (InDomain proof gadget) n = refl
+swapped (Malformed word) (Malformed word') n = refl
+swapped (Malformed word) Replayed n = refl
+swapped Replayed Accepted n = refl
+swapped Replayed Rejected n = refl
+swapped Replayed (InDomain proof gadget) n = refl
+swapped Replayed (Malformed word) n = refl
+swapped Replayed Replayed n = refl
+
+-- the last is counted as any other
+counts_of-last : (vs : List Verdict) (v : Verdict) → counts_of (vs ++ v ∷ []) ≡ one_more v (counts_of vs)
+counts_of-last [] v = refl
+counts_of-last (w ∷ vs) v = ap (one_more w) (counts_of-last vs v) ∙ swapped w v (counts_of vs)
+
+-- ---- the first verdicts of a list
+
+-- the first i of these were told, from some numbers and answers on
+module _ (vs : List Verdict) where
+  -- one more of them
+  first-more : (i : ℕ) (v : Verdict) → slice_get vs i ≡ Some v → take (i + 1) vs ≡ take i vs ++ v ∷ []
+  first-more i v is =
+      take_more vs i v (slice_get_within vs i v is) ∙ ap (λ (w : Verdict). take i vs ++ w ∷ []) (get_or_from_slice_get vs i v v is)
+
+  pub counted-more : (i : ℕ) (v : Verdict) (seen : List Verdict) (mid new : VerdictCounts) → slice_get vs i ≡ Some v → mid ≡ counts_of (seen ++ take i vs) → new ≡ one_more v mid → new ≡ counts_of (seen ++ take (i + 1) vs)
+  counted-more i v seen mid new is so one =
+      one ∙ (ap (one_more v) so
+      ∙ (sym (counts_of-last (seen ++ take i vs) v)
+      ∙ ap counts_of (append_assoc seen (take i vs) (v ∷ []) ∙ ap (λ (l : List Verdict). seen ++ l) (sym (first-more i v is)))))
+
+  pub told_in-more : (bucket i : ℕ) (v : Verdict) (of : ℕ) (n : VerdictCounts) → slice_get vs i ≡ Some v → told_in bucket (take i vs) of (one_more_in bucket v of n) ≡ told_in bucket (take (i + 1) vs) of n
+  told_in-more bucket i v of n is =
+      sym (ap (λ (l : List Verdict). told_in bucket l of n) (first-more i v is) ∙ told_in-append bucket (take i vs) (v ∷ []) of n)
+
+-- ---- what is told and then asked
+
+-- some were told and then others: both were told
+pub AreTold-append : {B : Type 0} (bucket : ℕ) (xs ys : List Verdict) (old mid new : VerdictCounts → ℕ → B) → AreTold bucket xs old mid → AreTold bucket ys mid new → AreTold bucket (xs ++ ys) old new
+AreTold-append bucket xs ys old mid new p q = λ more of.
+    q more of ∙ (p (told_in bucket ys of more) of ∙ ap (λ (n : VerdictCounts). old n of) (sym (told_in-append bucket xs ys of more)))
+
+-- after all verdicts were told, no more are needed for the answer
+pub AreTold-asked : {B : Type 0} (vs : List Verdict) (old new : VerdictCounts → ℕ → B) → AreTold 0 vs old new → new no_more 0 ≡ old (counts_of vs) 0
+AreTold-asked vs old new p = p no_more 0 ∙ ap (λ (n : VerdictCounts). old n 0) (told_in-counts vs)
+
+-- a floor that was new, and policies: the first of them that does not allow the release, after they were told all verdicts
+pub floor-asked : (least : ℕ) (vs : List Verdict) (fresh floor : VerdictCounts → ℕ → Bool) (would asked : Answers)
+    → ((more : VerdictCounts) (of : ℕ) → of < 256 → fresh more of ≡ nat_le least more.accepted)
+    → AreTold 0 vs fresh floor → AreTold 0 vs would asked
+    → position not (floor no_more 0 ∷ asked no_more 0) ≡ refusal least would (counts_of vs) 0
+floor-asked least vs fresh floor would asked new p q =
+    let first : floor no_more 0 ≡ nat_le least (counts_of vs).accepted = AreTold-asked vs fresh floor p ∙ new (counts_of vs) 0 (omega arith) in
+    ap₂ (λ (b : Bool) (bs : List Bool). position not (b ∷ bs)) first (AreTold-asked vs would asked q)
