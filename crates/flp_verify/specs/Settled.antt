@@ -14,7 +14,7 @@ use Rattle.flp_policy.specs.Counts.{VerdictCounts, counts_of}
 use Rattle.flp_tally.specs.declared.view.View.{View}
 use Rattle.flp_tally.specs.Views.{first_view}
 use Rattle.flp_pool.specs.Range.{LacksRange, TakesRange}
-use Rattle.flp_round.specs.Crew as crew
+use Rattle.flp_round.specs.Crew.{workers_of, room_of, IsCrewFor}
 use Rattle.flp_round.specs.Findings.{verdicts_by, rows_by, row_from}
 use Rattle.flp_verdict.specs.Release.{Answers, known_after}
 use Rattle.flp_verdict.specs.Verdicts.{verdicts_of}
@@ -47,9 +47,9 @@ pub record IsRoomFor (front : Front) (room : Room) : Type 0 where
   pub shape : segment.shape_in room.segment ≡ front.shape
   pub records : segment.room_of room.segment ≡ room_for front
   pub marks : vec_len room.marks ≡ room_for front
-  pub crew : crew.IsCrewFor front.loaded.plan front.shape room.crew
-  pub verdicts : crew.room_of room.crew ≡ room_for front
-  pub workers : crew.workers_of room.crew ≡ front.workers
+  pub crew : IsCrewFor front.loaded.plan front.shape room.crew
+  pub verdicts : room_of room.crew ≡ room_for front
+  pub workers : workers_of room.crew ≡ front.workers
   pub empty : room.block ≡ []
 
 -- a tally for them, whose weight all workers share
@@ -64,8 +64,8 @@ seen_by front None = first_view front.workers front.header.reports front.shape.o
 seen_by front (Some board) = board.seat.view
 
 -- between two segments, where so many records stand in front
-pub record IsBetween (front : Front) (first : ℕ) (room : Room) (ledger : Ledger) : Type 0 where
-  pub room : IsRoomFor front room
+pub record IsBetween (front : Front) (first : ℕ) (within : Room) (ledger : Ledger) : Type 0 where
+  pub room : IsRoomFor front within
   pub board : IfSome ledger.board (IsBoardFor front)
   pub places : places_in ledger.numbers ≡ first
   pub free : LacksRange first front.header.reports (seen_by front ledger.board).claimed

@@ -1,7 +1,6 @@
 //! The tally of a batch, with its one seat.
 ghost use Rattle.std.specs.Prelude.{◌≡◌, None, IfOk, IfSome};
 ghost use Rattle.flp_tally.specs.Held.{IsSeatOf};
-ghost use Rattle.flp_verify.specs.Settled.{IsBoardFor, seen_by};
 
 use crate::Memory;
 use crate::front::Front;
@@ -17,33 +16,37 @@ pub struct Board {
     ghost whole: { seat.view.weight ≡ seat.view.full },
 }
 
-/// The tally for the records behind this front.
-fn new_board(alloc: Global, front: &Front) -> Result<Board, Memory>
-    ensures board { IfOk result (IsBoardFor front.now) }
-    ensures seen { IfOk result (λ board. board.seat.view ≡ seen_by front.now None) }
-{
-    flp_plan::laws::is_within_limits(&front.loaded.plan);
-    let (tally, seat) = Tally::new(
-        alloc,
-        front.header.reports,
-        front.shape.outs,
-        front.workers,
-    )?;
-    Ok(Board { tally, seat })
-}
+impl Board {
+    ghost use Rattle.flp_verify.specs.Settled.{IsBoardFor, seen_by};
 
-/// The tally that is there, or one that is made where none is.
-pub(crate) fn board_for(
-    alloc: Global,
-    board: Option<Board>,
-    front: &Front,
-) -> Result<Board, Memory>
-    requires { IfSome board (IsBoardFor front.now) }
-    ensures board { IfOk result (IsBoardFor front.now) }
-    ensures seen { IfOk result (λ made. made.seat.view ≡ seen_by front.now board) }
-{
-    match board {
-        Some(board) => Ok(board),
-        None => new_board(alloc, front),
+    /// The tally for the records behind this front.
+    fn new(alloc: Global, front: &Front) -> Result<Board, Memory>
+        ensures board { IfOk result (IsBoardFor front.now) }
+        ensures seen { IfOk result (λ board. board.seat.view ≡ seen_by front.now None) }
+    {
+        flp_plan::laws::is_within_limits(&front.loaded.plan);
+        let (tally, seat) = Tally::new(
+            alloc,
+            front.header.reports,
+            front.shape.outs,
+            front.workers,
+        )?;
+        Ok(Board { tally, seat })
+    }
+
+    /// The tally that is there, or one that is made where none is.
+    pub(crate) fn there_or_new(
+        alloc: Global,
+        board: Option<Board>,
+        front: &Front,
+    ) -> Result<Board, Memory>
+        requires { IfSome board (IsBoardFor front.now) }
+        ensures board { IfOk result (IsBoardFor front.now) }
+        ensures seen { IfOk result (λ made. made.seat.view ≡ seen_by front.now board) }
+    {
+        match board {
+            Some(board) => Ok(board),
+            None => Board::new(alloc, front),
+        }
     }
 }

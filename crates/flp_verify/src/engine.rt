@@ -23,7 +23,7 @@ ghost use Rattle.flp_verify.specs.Numbers.{counts_in};
 ghost use Rattle.flp_verify.specs.Settled.{IsRoomFor, IsBoardFor, IsBetween, IsBehind, Advances, standing, setting_with, opened_with, found_lines};
 ghost use Rattle.flp_verify.specs.Text.{verdict_line};
 
-use crate::board::{Board, board_for};
+use crate::board::Board;
 use crate::front::Front;
 use crate::lines::put_segment;
 use crate::marks::mark;
@@ -131,7 +131,7 @@ fn pass_segment<R: Threads + Sync, K: Sink, G: Gate>(
 {
     let replayed = &mut room.marks[..count as usize];
     mark(&mut ledger.known, &room.segment, count, replayed)?;
-    let board = board_for(alloc, ledger.board.take(), front)?;
+    let board = Board::there_or_new(alloc, ledger.board.take(), front)?;
     let board = verify_round(
         rt,
         front,
