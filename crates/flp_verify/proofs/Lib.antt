@@ -12,3 +12,5 @@ pub mod PutsLemmas
 pub mod ToldLemmas
 -- which records are replayed
 pub mod MarkLemmas
+-- what the runs over a batch's segments take together
+pub mod RunLemmas
