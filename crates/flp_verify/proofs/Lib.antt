@@ -16,3 +16,5 @@ pub mod MarkLemmas
 pub mod TellingLemmas
 -- records beside their verdicts
 pub mod LineLemmas
+-- what the runs over a batch's segments take together
+pub mod RunLemmas
