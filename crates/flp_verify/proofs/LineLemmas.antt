@@ -1,6 +1,11 @@
 -- Records beside their verdicts, and the lines of these.
 use Rattle.std.proofs.Common.{◌≡◌, ℕ, zero, suc, ◌+◌, ◌<◌, ◌≤◌, List, [], ◌∷◌, ◌++◌, length, map, get_or, Option, Some, None, refl, sym, ap, ap₂, ◌∙◌, subst, arith}
-use Rattle.std.specs.Prelude.{slice_get}
+use Rattle.std.specs.Prelude.{slice_get, Result, Ok, Err, OnOk}
+use Rattle.std.specs.Io.KnownBytes.{Appends}
+use Rattle.flp_io.specs.Block.{Passes}
+use Rattle.flp_io.specs.Writes.{TakesPrefix}
+use Rattle.flp_io.proofs.BlockLemmas.{Passes-flushed}
+use Rattle.flp_io.proofs.WriteLemmas.{TakesPrefix-after}
 use Rattle.flp_policy.specs.declared.verdict.Verdict.{Verdict}
 use Rattle.flp_verdict.specs.Verdicts.{Judged}
 use Rattle.flp_verify.specs.Told.{beside}
@@ -27,3 +32,14 @@ beside-at [] verdicts i report verdict r v = let no : ⊥ = cc in absurd no
 beside-at (x ∷ reports) [] i report verdict r v = let no : ⊥ = cc in absurd no
 beside-at (x ∷ reports) (y ∷ verdicts) zero report verdict r v = cc
 beside-at (x ∷ reports) (y ∷ verdicts) (suc i) report verdict r v = beside-at reports verdicts i report verdict r v
+
+-- ---- a block that was given a text, and what it holds then written
+
+-- all that was held and the text, where the writing did not fail
+pub whole-written : {T E : Type 0} (r : Result T E) (a b c : Option (List ℕ)) (held held' text : List ℕ) → Passes a held text b held' → OnOk r (Appends b c held') → OnOk r (Appends a c (held ++ text))
+whole-written (Ok x) a b c held held' text p q = Passes-flushed a b c held held' text p q
+whole-written (Err x) a b c held held' text p q = tt
+
+-- and else a prefix of both
+pub front-written : (a b c : Option (List ℕ)) (held held' text : List ℕ) → Passes a held text b held' → TakesPrefix b c held' → TakesPrefix a c (held ++ text)
+front-written a b c held held' text p q = subst (TakesPrefix a c) (sym p.split) (TakesPrefix-after a b c p.out held' p.written q)

@@ -3,6 +3,7 @@ ghost use Rattle.std.specs.Prelude.{◌≡◌, ◌++◌, ℕ, [], length, decima
 ghost use Rattle.std.specs.Io.KnownBytes.{Appends};
 ghost use Rattle.flp_io.specs.Faults.{Uses};
 ghost use Rattle.flp_io.specs.Writes.{TakesPrefix};
+ghost use Rattle.flp_report.specs.Record.{record_of, nonce_in};
 ghost use Rattle.flp_report.specs.Segment.{used_in, records_in};
 ghost use Rattle.flp_round.specs.Crew.{verdicts_of};
 ghost use Rattle.flp_verdict.specs.Text.{spelled, line_head, line_with, judged_lines};
@@ -12,31 +13,31 @@ ghost use Rattle.flp_verify.specs.Told.{beside};
 use crate::ending::{put_number, put_piece, put_spaced_number};
 use flp_io::{Block, Failed, Sink};
 use flp_policy::Verdict;
-use flp_report::Segment;
+use flp_report::{Record, Segment};
 use flp_round::Crew;
 
 /// Puts how a report in a domain is spelled: the number of the proof and of the gadget.
 fn put_domain<K: Sink>(
     block: &mut Block,
     sink: &mut K,
-    proof: u32,
-    gadget: u32,
+    proof: u64,
+    gadget: u64,
 ) -> Result<(), Failed>
     requires { K.ready sink.old }
     ensures { Puts K.taken K.faults K.ready sink.old sink.new block.old block.new (codes "domain " ++ (decimal proof ++ (codes " " ++ decimal gadget))) result }
 {
     put_piece(block, sink, b"domain ")?;
-    put_number(block, sink, u64::from(proof))?;
-    put_spaced_number(block, sink, u64::from(gadget))
+    put_number(block, sink, proof)?;
+    put_spaced_number(block, sink, gadget)
 }
 
 /// Puts how a malformed report is spelled: the number of the word.
-fn put_malformed<K: Sink>(block: &mut Block, sink: &mut K, word: u32) -> Result<(), Failed>
+fn put_malformed<K: Sink>(block: &mut Block, sink: &mut K, word: u64) -> Result<(), Failed>
     requires { K.ready sink.old }
     ensures { Puts K.taken K.faults K.ready sink.old sink.new block.old block.new (codes "malformed " ++ decimal word) result }
 {
     put_piece(block, sink, b"malformed ")?;
-    put_number(block, sink, u64::from(word))
+    put_number(block, sink, word)
 }
 
 /// Puts how a verdict is spelled.
@@ -47,36 +48,47 @@ fn put_verdict<K: Sink>(block: &mut Block, sink: &mut K, verdict: Verdict) -> Re
     match verdict {
         Verdict::Accepted => put_piece(block, sink, b"accepted"),
         Verdict::Rejected => put_piece(block, sink, b"rejected"),
-        Verdict::InDomain { proof, gadget } => put_domain(block, sink, proof, gadget),
-        Verdict::Malformed { word } => put_malformed(block, sink, word),
+        Verdict::InDomain { proof, gadget } => put_domain(
+            block,
+            sink,
+            u64::from(proof),
+            u64::from(gadget),
+        ),
+        Verdict::Malformed { word } => put_malformed(block, sink, u64::from(word)),
         Verdict::Replayed => put_piece(block, sink, b"replayed"),
     }
 }
 
-/// Puts how a line begins: a nonce of 16 bytes in hexadecimal digits, and a space.
-fn put_nonce<K: Sink>(block: &mut Block, sink: &mut K, nonce: &[u8]) -> Result<(), Failed>
-    requires ready { K.ready sink.old }
-    requires nonce { length nonce.now ≡ 16 }
-    ensures { Puts K.taken K.faults K.ready sink.old sink.new block.old block.new (line_head nonce.now) result }
+/// Puts a word, and a space behind it.
+fn put_word<K: Sink>(block: &mut Block, sink: &mut K, word: &[u8]) -> Result<(), Failed>
+    requires { K.ready sink.old }
+    ensures { Puts K.taken K.faults K.ready sink.old sink.new block.old block.new (word.now ++ codes " ") result }
 {
-    let mut digits = [0; 32];
-    hex::encode_to_slice(nonce, &mut digits).unwrap();
-    put_piece(block, sink, &digits)?;
+    put_piece(block, sink, word)?;
     put_piece(block, sink, b" ")
 }
 
-/// Puts the line of a record: its nonce of 16 bytes in hexadecimal digits, and its verdict.
+/// Puts how the line of a record begins: its nonce in hexadecimal digits, and a space.
+fn put_nonce<K: Sink>(block: &mut Block, sink: &mut K, given: &Record) -> Result<(), Failed>
+    requires { K.ready sink.old }
+    ensures { Puts K.taken K.faults K.ready sink.old sink.new block.old block.new (line_head (nonce_in (record_of given.now))) result }
+{
+    let mut digits = [0; 32];
+    hex::encode_to_slice(given.nonce(), &mut digits).unwrap();
+    put_word(block, sink, &digits)
+}
+
+/// Puts the line of a record that has this verdict.
 fn put_verdict_line<K: Sink>(
     block: &mut Block,
     sink: &mut K,
-    nonce: &[u8],
+    given: &Record,
     verdict: Verdict,
 ) -> Result<(), Failed>
-    requires ready { K.ready sink.old }
-    requires nonce { length nonce.now ≡ 16 }
-    ensures { Puts K.taken K.faults K.ready sink.old sink.new block.old block.new (line_with nonce.now (spelled verdict)) result }
+    requires { K.ready sink.old }
+    ensures { Puts K.taken K.faults K.ready sink.old sink.new block.old block.new (line_with (nonce_in (record_of given.now)) (spelled verdict)) result }
 {
-    put_nonce(block, sink, nonce)?;
+    put_nonce(block, sink, given)?;
     put_verdict(block, sink, verdict)?;
     put_piece(block, sink, b"\n")
 }
@@ -96,7 +108,7 @@ fn put_verdict_lines<K: Sink>(
 {
     for index in 0..count {
         let given = segment.record_at(index);
-        put_verdict_line(block, sink, given.nonce(), crew.verdict(index))?;
+        put_verdict_line(block, sink, &given, crew.verdict(index))?;
     }
     Ok(())
 }
