@@ -1,7 +1,5 @@
--- the lines and the ending of what was counted
+-- the lines of a walk
 pub mod TextLemmas
--- one record more
-pub mod CountingLemmas
 -- what a tally's totals are to a batch
 pub mod TotalLemmas
 -- what is printed of a batch that was counted
@@ -18,3 +16,5 @@ pub mod TellingLemmas
 pub mod LineLemmas
 -- what the runs over a batch's segments take together
 pub mod RunLemmas
+-- what is kept behind one segment more
+pub mod SettledLemmas

@@ -57,7 +57,7 @@ module _ (outs : List ℕ → List ℕ) (e : ℕ) where
       ∙ one-more j js (is_accepted j.verdict) refl)
 
 -- the records that are judged are the records
-reports-judged : (program : Program) (shape : Shape) (claims earlier reports : List (List ℕ)) → map (λ (j : Judged). j.report) (judged_from program shape claims earlier reports) ≡ reports
+pub reports-judged : (program : Program) (shape : Shape) (claims earlier reports : List (List ℕ)) → map (λ (j : Judged). j.report) (judged_from program shape claims earlier reports) ≡ reports
 reports-judged program shape claims earlier [] = refl
 reports-judged program shape claims earlier (r ∷ reports) = ap (λ (l : List (List ℕ)). r ∷ l) (reports-judged program shape claims (earlier ++ r ∷ []) reports)
 

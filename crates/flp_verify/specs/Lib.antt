@@ -1,10 +1,6 @@
 -- The command `verify`, from its text up to what it keeps on the way.
 -- the text, from what records are judged by
 pub mod Text
--- count and sums
-pub mod Totals
--- what is kept over the records that were judged
-pub mod Counting
 -- which records are replayed
 pub mod Marks
 -- how many places have each verdict
@@ -21,3 +17,5 @@ pub mod Laws
 pub mod Told
 -- what is kept over the segments, and what one segment does to it
 pub mod Settled
+-- what is said of a whole batch by the bytes that were read and written
+pub mod Reply

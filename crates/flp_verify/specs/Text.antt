@@ -1,9 +1,9 @@
 -- What `verify` writes of a batch, from what its records are judged by and the records.
-use Rattle.std.specs.Prelude.{ℕ, List}
+use Rattle.std.specs.Prelude.{ℕ, List, Bool, Option}
 use Rattle.flp_batch.specs.Setting.{Setting}
-use Rattle.flp_batch.specs.Lines.{Wording}
 use Rattle.flp_verdict.specs.Verdicts.{Judged, judged, judged_after}
-use Rattle.flp_verdict.specs.Text.{line_of, judged_lines, text_of}
+use Rattle.flp_verdict.specs.Text.{line_of, judged_lines}
+use Rattle.flp_verdict.specs.Release.{Answers, withheld_from, released_text}
 
 -- each record beside its verdict
 abbrev pub judged_by : Setting → (reports : List (List ℕ)) → List Judged
@@ -13,13 +13,15 @@ judged_by by reports = judged by.circuit by.shape by.claims reports
 abbrev pub verdict_line : Setting → (earlier : List (List ℕ)) → (report : List ℕ) → List ℕ
 verdict_line by earlier report = line_of (judged_after by.circuit by.shape by.claims earlier report)
 
--- the lines of the records, and the whole text
+-- the lines of the records
 abbrev pub verdict_lines : Setting → (reports : List (List ℕ)) → List ℕ
 verdict_lines by reports = judged_lines (judged_by by reports)
 
-abbrev pub text_by : Setting → (reports : List (List ℕ)) → List ℕ
-text_by by reports = text_of by.circuit by.shape by.claims reports
+-- the policy that withholds the aggregate, if one does, where these are the answers of all but the least one, which wants
+-- `least` accepted reports
+abbrev pub refused_by : (least : ℕ) → Answers → Setting → (reports : List (List ℕ)) → Option ℕ
+refused_by least would by reports = withheld_from by.circuit by.shape least would by.claims reports
 
--- all that is written
-abbrev pub words_by : Setting → Wording
-words_by by = record { line = verdict_line by; text = text_by by }
+-- the whole text, with the claims where they are asked for
+abbrev pub released_by : (least : ℕ) → Answers → (claims : Bool) → Setting → (reports : List (List ℕ)) → List ℕ
+released_by least would claims by reports = released_text by.circuit by.shape least would claims by.claims reports

@@ -1,69 +1,51 @@
 //! The command `verify`: from the bytes of a batch to its text.
-ghost use Rattle.std.specs.Prelude.{◌≡◌, ◌⊎◌, None, Err, OnOk, OnErr, IfErr};
+ghost use Rattle.std.specs.Prelude.{◌≡◌, ◌⊎◌, ◌≤◌, ◌<◌, ◌^◌, ◌-◌, None, Err, IfOk, IfErr, OnErr, length, map};
 ghost use Rattle.std.specs.Io.KnownBytes.{Keeps};
 ghost use Rattle.flp_batch.specs.Ends.{Ends};
 ghost use Rattle.flp_batch.specs.Fault.{IsOfFront, IsOfInput};
 ghost use Rattle.flp_batch.specs.File.{IsFault, TakesFew};
 ghost use Rattle.flp_batch.specs.Format.{batches};
-ghost use Rattle.flp_batch.specs.Reply.{WritesText, StopsEarly, StopsInText, SettlesEarly};
-ghost use Rattle.flp_verify.specs.Text.{verdict_lines, text_by};
+ghost use Rattle.flp_batch.specs.Reply.{StopsEarly, StopsInText, SettlesEarly};
+ghost use Rattle.flp_verify.specs.Reply.{Releases};
+ghost use Rattle.flp_verify.specs.Text.{verdict_lines, released_by};
 
-use crate::counting::Counting;
-use flp_batch::{EngineFault, Opened, Task, perform, walk};
+use crate::batch::verify_batch;
+use crate::closing::finish;
+use crate::counted::End;
+use flp_batch::EngineFault;
 use flp_io::{Sink, Source};
-use flp_report::BatchReader;
+use flp_policy::Policy;
+use flp_pool::Gate;
 use std::alloc::Global;
+use std::thread::Threads;
 
-/// The command.
-#[derive(Drop)]
-struct Verifies;
-
-impl Task for Verifies {
-    ghost use Rattle.std.specs.Prelude.{None};
-    ghost use Rattle.flp_verify.specs.Text.{words_by};
-
-    ghost asked = { λ _. None };
-
-    ghost words = { λ _. words_by };
-
-    fn party(&self) -> Option<u32> {
-        None
-    }
-
-    fn answer<S: Source, K: Sink>(
-        &self,
-        alloc: Global,
-        reader: &mut BatchReader<'_, S>,
-        opened: &Opened,
-        output: &mut K,
-    ) -> Result<(), EngineFault> {
-        let counting = Counting::new(alloc, &opened.loaded.plan, &opened.shape, &opened.claims);
-        walk(alloc, reader, opened, counting, output)
-    }
-}
-
-/// Reads the batch that is the input and writes its text to the output.
+/// Verifies the batch that is the input, and writes its text to the output: [`verify_batch`], and then
+/// [`finish`](crate::finish).
 ///
-/// The input is read to its end before the count is written. An error is the first fault of the input, or
-/// [`EngineFault::Read`], [`EngineFault::Write`] or [`EngineFault::Memory`]; the output has then taken a prefix of
-/// the lines of the records that were read whole, or, where its own fault came behind these, of the text, and nothing
-/// where the fault lies in front of the records.
-///
-/// Room is taken for the text and its circuit, for the old claims, for one record and its line, and for the worker,
-/// the nonces and the sums.
-pub fn verify<S: Source, K: Sink>(
+/// The end of the input seen, the text ends with the number of accepted records, the aggregate or the policy that withholds
+/// it, and the claims where they are asked for. An error is the first fault of the input, or [`EngineFault::Read`],
+/// [`EngineFault::Write`] or [`EngineFault::Memory`]; the output has then taken a prefix of the lines of the records that
+/// were read whole, or, where its own fault came behind these, of the text, and nothing where the fault lies in front of the
+/// records.
+pub fn verify<R: Threads + Sync, S: Source, K: Sink, G: Gate>(
+    rt: &R,
     alloc: Global,
     input: &mut S,
     output: &mut K,
-) -> Result<(), EngineFault>
-    requires readable { S.ready input.old }
-    requires writable { K.ready output.old }
-    ensures done { OnOk result (WritesText None text_by (S.left input.old) (S.left input.new) (K.taken output.old) (K.taken output.new)) }
-    ensures stopped { OnErr result (StopsEarly None verdict_lines (S.left input.old) (S.left input.new) (K.taken output.old) (K.taken output.new)
-        ⊎ ((result ≡ Err EngineFault.Write) × StopsInText None text_by (S.left input.old) (S.left input.new) (K.taken output.old) (K.taken output.new))) }
-    ensures settled { IfErr result (λ fault. IsOfInput fault → SettlesEarly None verdict_lines (S.left input.old) (S.left input.new) (K.taken output.old) (K.taken output.new)) }
-    ensures kept { IfErr result (λ fault. IsOfFront fault → Keeps (K.taken output.old) (K.taken output.new)) }
-    ensures ends { Ends (IsFault (batches None)) (TakesFew (batches None)) (S.left input.old) (S.left input.new) (S.faults input.old) (S.faults input.new) (K.faults output.old) (K.faults output.new) result }
+    workers: u32,
+    least: u64,
+    claims: bool,
+    gate: &G,
+    policies: &mut [Box<dyn Policy>],
+) -> Result<End, EngineFault>
 {
-    perform(alloc, &Verifies, input, output)
+    let counted = match verify_batch(rt, alloc, input, output, workers, least, gate, policies) {
+        Ok(counted) => counted,
+        Err(fault) => return Err(fault),
+    };
+    let end = counted.end;
+    match finish(alloc, counted, output, claims) {
+        Ok(_) => Ok(end),
+        Err(fault) => Err(fault),
+    }
 }

@@ -4,8 +4,8 @@ ghost use Rattle.flp_tally.specs.Held.{IsSeatOf};
 
 use crate::numbers::Numbers;
 use flp_field::Fe;
+use flp_known::Known;
 use flp_list::List;
-use flp_report::Nonces;
 use flp_tally::{Seat, Tally};
 
 /// Whether the aggregate is released.
@@ -25,7 +25,7 @@ pub enum End {
 pub struct Counted {
     pub outs: u32,
     pub numbers: Numbers,
-    pub known: Nonces,
+    pub known: Known,
     pub end: End,
     pub tally: Tally,
     pub seat: Seat,

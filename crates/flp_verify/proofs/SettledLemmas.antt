@@ -1,0 +1,119 @@
+-- What is kept behind records, from that behind the records before a segment of them.
+use Rattle.std.proofs.Common.{◌≡◌, ◌≢◌, ℕ, ◌+◌, Option, List, [], ◌∷◌, ◌++◌, length, map, refl, sym, ap, ap₂, subst, ◌∙◌, append_assoc, append-nil, length-append}
+use Rattle.std.specs.Io.KnownBytes.{Appends}
+use Rattle.std.proofs.lemmas.List.{map-append}
+use Rattle.std.proofs.lemmas.List.Sums.{fold-append}
+use Rattle.flp_io.specs.Writes.{TakesPrefix}
+use Rattle.flp_syntax.specs.Tree.{Program}
+use Rattle.flp_report.specs.declared.shape.Shape.{Shape}
+use Rattle.flp_report.specs.Record.{nonce_in}
+use Rattle.flp_known.specs.Order.{with_nonce, with_nonces}
+use Rattle.flp_policy.specs.declared.verdict.Verdict.{Verdict}
+use Rattle.flp_policy.specs.Counts.{no_more, counts_of}
+use Rattle.flp_tally.specs.declared.view.View.{View}
+use Rattle.flp_pool.specs.Range.{TakesRange}
+use Rattle.flp_pool.specs.Laws.{EmptyRuns, JoinedRuns}
+use Rattle.flp_batch.specs.Lines.{lines_from}
+use Rattle.flp_batch.specs.Walk.{JudgesSome}
+use Rattle.flp_verdict.specs.Verdicts.{Judged, judged_after, judged_from}
+use Rattle.flp_verdict.specs.Text.{judged_lines}
+use Rattle.flp_verdict.specs.Release.{known_after}
+use Rattle.flp_verify.specs.declared.front.Front.{Front}
+use Rattle.flp_verify.specs.Rows.{row_in}
+use Rattle.flp_verify.specs.Settled.{Standing, IsBehind, Advances, setting_with, verdicts_from, found_behind, found_lines, found_row}
+use Rattle.flp_verify.specs.Text.{verdict_line}
+use Rattle.flp_verify.specs.Told.{AreTold, beside}
+use Rattle.flp_verify.proofs.LineLemmas.{beside-is}
+use Rattle.flp_verify.proofs.MarkLemmas.{verdicts-marked}
+use Rattle.flp_verify.proofs.RunLemmas.{takes-more}
+use Rattle.flp_verify.proofs.TellingLemmas.{AreTold-append}
+use Rattle.flp_verify.proofs.TextLemmas.{lines_from-judged}
+use Rattle.flp_verify.proofs.TotalLemmas.{reports-judged}
+
+-- records, and then more of them, are judged as all of them
+judged_from-joined : (program : Program) (shape : Shape) (claims earlier reports more : List (List ℕ))
+    → judged_from program shape claims earlier (reports ++ more) ≡ judged_from program shape claims earlier reports ++ judged_from program shape claims (earlier ++ reports) more
+judged_from-joined program shape claims earlier [] more = ap (λ (e : List (List ℕ)). judged_from program shape claims e more) (sym (append-nil earlier))
+judged_from-joined program shape claims earlier (report ∷ reports) more =
+    ap (λ (l : List Judged). judged_after program shape claims earlier report ∷ l)
+    (judged_from-joined program shape claims (earlier ++ report ∷ []) reports more
+    ∙ ap (λ (e : List (List ℕ)). judged_from program shape claims (earlier ++ report ∷ []) reports ++ judged_from program shape claims e more) (append_assoc earlier (report ∷ []) reports))
+
+-- the records of a segment beside their verdicts, behind those before it
+segment_judged : Front → Standing → (earlier records : List (List ℕ)) → List Judged
+segment_judged front start earlier records = judged_from front.loaded.plan.circuit front.shape start.known earlier records
+
+verdicts-joined : (front : Front) (start : Standing) (earlier records : List (List ℕ))
+    → verdicts_from front start (earlier ++ records) ≡ verdicts_from front start earlier ++ map (λ (j : Judged). j.verdict) (segment_judged front start earlier records)
+verdicts-joined front start earlier records =
+    ap (λ (js : List Judged). map (λ (j : Judged). j.verdict) js) (judged_from-joined front.loaded.plan.circuit front.shape start.known [] earlier records)
+    ∙ map-append (λ (j : Judged). j.verdict) (judged_from front.loaded.plan.circuit front.shape start.known [] earlier) (segment_judged front start earlier records)
+
+-- behind them the workers find the verdicts that the records have in the batch
+found-judged : (front : Front) (start : Standing) (known earlier records : List (List ℕ)) → known ≡ known_after start.known earlier
+    → found_behind front known records ≡ map (λ (j : Judged). j.verdict) (segment_judged front start earlier records)
+found-judged front start known earlier records is =
+    ap (λ (k : List (List ℕ)). found_behind front k records) is ∙ verdicts-marked (setting_with front start.known) earlier records
+
+-- and so their lines
+pub found-lines : (front : Front) (start : Standing) (known earlier records : List (List ℕ)) → known ≡ known_after start.known earlier
+    → found_lines front known records ≡ lines_from (verdict_line (setting_with front start.known)) earlier records
+found-lines front start known earlier records is =
+    let js = segment_judged front start earlier records in
+    ap judged_lines (beside-is js records (found_behind front known records) (reports-judged front.loaded.plan.circuit front.shape start.known earlier records) (sym (found-judged front start known earlier records is)))
+    ∙ sym (lines_from-judged (setting_with front start.known) earlier records)
+
+-- the nonces of records, and then of more of them
+known-joined : (claims earlier records : List (List ℕ)) → with_nonces (known_after claims earlier) (map nonce_in records) ≡ known_after claims (earlier ++ records)
+known-joined claims earlier records = sym (ap (with_nonces claims) (map-append nonce_in earlier records) ∙ fold-append with_nonce claims (map nonce_in earlier) (map nonce_in records))
+
+-- ---- what is kept
+
+-- in front of the first record
+pub behind-none : EmptyRuns → (front : Front) (start : Standing) → start.counts ≡ no_more → IsBehind front start start []
+behind-none empty front start none = record {
+  known = refl;
+  counts = none;
+  floor = λ more of. refl;
+  answers = λ more of. refl;
+  view = empty (row_in (setting_with front start.known) []) 0 start.view;
+}
+
+-- one segment more
+pub behind-more : JoinedRuns → (front : Front) (start old new : Standing) (earlier records : List (List ℕ)) → front.shape.buckets ≡ 1 → front.shape.version ≢ 2
+    → IsBehind front start old earlier → Advances front (length earlier) old new records → IsBehind front start new (earlier ++ records)
+behind-more join front start old new earlier records single other p step =
+    let by = setting_with front start.known in
+    let vs = found_behind front old.known records in
+    let found = found-judged front start old.known earlier records p.known in
+    let whole : verdicts_from front start earlier ++ vs ≡ verdicts_from front start (earlier ++ records) =
+    ap (λ (l : List Verdict). verdicts_from front start earlier ++ l) found ∙ sym (verdicts-joined front start earlier records) in
+    let rows = subst (λ (k : List (List ℕ)). TakesRange (found_row front k records (length earlier)) (length earlier) (length earlier + length records) old.view new.view) p.known step.view in
+    record {
+      known = step.known ∙ (ap (λ (k : List (List ℕ)). with_nonces k (map nonce_in records)) p.known ∙ known-joined start.known earlier records);
+      counts = step.counts (verdicts_from front start earlier) p.counts ∙ ap counts_of whole;
+      floor = subst (λ (l : List Verdict). AreTold 0 l start.floor new.floor) whole (AreTold-append 0 (verdicts_from front start earlier) vs start.floor old.floor new.floor p.floor step.floor);
+      answers = subst (λ (l : List Verdict). AreTold 0 l start.answers new.answers) whole (AreTold-append 0 (verdicts_from front start earlier) vs start.answers old.answers new.answers p.answers step.answers);
+      view = subst (λ (n : ℕ). TakesRange (row_in by (earlier ++ records)) 0 n start.view new.view) (sym (length-append earlier records))
+          (takes-more join by single other earlier records start.view old.view new.view p.view rows);
+    }
+
+-- its records are judged then, and their lines are written
+pub segment-judges : JoinedRuns → (front : Front) (start old new : Standing) (earlier records : List (List ℕ)) (taken taken' : Option (List ℕ)) → front.shape.buckets ≡ 1 → front.shape.version ≢ 2
+    → IsBehind front start old earlier → Advances front (length earlier) old new records → Appends taken taken' (found_lines front old.known records)
+    → JudgesSome (verdict_line (setting_with front start.known)) (IsBehind front start new) earlier records taken [] taken' []
+segment-judges join front start old new earlier records taken taken' single other p step written =
+    let lines = lines_from (verdict_line (setting_with front start.known)) earlier records in
+    record {
+      follows_are = behind-more join front start old new earlier records single other p step;
+      passed = record {
+        out = lines;
+        written = subst (Appends taken taken') (found-lines front start old.known earlier records p.known) written;
+        split = sym (append-nil lines);
+      };
+    }
+
+-- a prefix of them
+pub segment-front : (front : Front) (start old : Standing) (earlier records : List (List ℕ)) (taken taken' : Option (List ℕ)) → IsBehind front start old earlier
+    → TakesPrefix taken taken' (found_lines front old.known records) → TakesPrefix taken taken' (lines_from (verdict_line (setting_with front start.known)) earlier records)
+segment-front front start old earlier records taken taken' p front_written = subst (TakesPrefix taken taken') (found-lines front start old.known earlier records p.known) front_written

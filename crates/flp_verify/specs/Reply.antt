@@ -1,0 +1,42 @@
+-- What the calls of this crate answer of a whole batch, by the bytes that they read and wrote.
+use Rattle.std.specs.Prelude.{ℕ, ◌≡◌, ◌<◌, List, Bool, Option, None}
+use Rattle.std.specs.Io.KnownBytes.{Consumes, Appends, IsAtEnd}
+use Rattle.flp_syntax.specs.declared.syntax.Params.{Params}
+use Rattle.flp_report.specs.Batch.{whole_records}
+use Rattle.flp_batch.specs.Format.{newest_read}
+use Rattle.flp_batch.specs.File.{IsBatch}
+use Rattle.flp_batch.specs.Reply.{text_on}
+use Rattle.flp_batch.specs.Setting.{Setting}
+use Rattle.flp_verdict.specs.Release.{Answers}
+use Rattle.flp_verify.specs.declared.counted.Counted.{Counted}
+use Rattle.flp_verify.specs.declared.counted.End.{End}
+use Rattle.flp_verify.specs.Counted.{withheld_by}
+use Rattle.flp_verify.specs.Laws.{IsCounted}
+use Rattle.flp_verify.specs.Text.{verdict_lines, refused_by, released_by}
+
+-- the records of a batch of these bytes
+abbrev pub records_on : (bytes : List ℕ) → Setting → List (List ℕ)
+records_on bytes setting = whole_records newest_read None setting.shape bytes
+
+-- the input was read to its end and is a batch, the output grew by exactly the lines of its records, and this is what is known
+-- of it
+pub record Counts (least : ℕ) (would : Answers) (counted : Counted) (left left' taken taken' : Option (List ℕ)) : Type 0 where
+  pub bytes : List ℕ
+  pub params : Option Params
+  pub setting : Setting
+  pub read : Consumes left left' bytes
+  pub ended : IsAtEnd left'
+  pub is_batch : IsBatch None bytes params setting
+  pub written : Appends taken taken' (text_on None verdict_lines bytes setting)
+  pub counted_is : IsCounted setting least would (records_on bytes setting) counted
+
+-- the input was read to its end and is a batch, the output grew by exactly its text, and this is how its aggregate ended
+pub record Releases (least : ℕ) (would : Answers) (claims : Bool) (end : End) (left left' taken taken' : Option (List ℕ)) : Type 0 where
+  pub bytes : List ℕ
+  pub params : Option Params
+  pub setting : Setting
+  pub read : Consumes left left' bytes
+  pub ended : IsAtEnd left'
+  pub is_batch : IsBatch None bytes params setting
+  pub end_is : withheld_by end ≡ refused_by least would setting (records_on bytes setting)
+  pub written : Appends taken taken' (text_on None (released_by least would claims) bytes setting)
