@@ -1,5 +1,6 @@
 -- What is kept behind records, from that behind the records before a segment of them.
-use Rattle.std.proofs.Common.{◌≡◌, ◌≢◌, ℕ, ◌+◌, Option, List, [], ◌∷◌, ◌++◌, length, map, refl, sym, ap, ap₂, subst, ◌∙◌, append_assoc, append-nil, length-append}
+use Rattle.std.proofs.Common.{◌≡◌, ◌≢◌, ℕ, suc, ◌+◌, Option, None, List, [], ◌∷◌, ◌++◌, length, map, refl, sym, ap, ap₂, subst, ◌∙◌, append_assoc, append-nil, length-append}
+use Rattle.std.specs.Prelude.{IfSome}
 use Rattle.std.specs.Io.KnownBytes.{Appends}
 use Rattle.std.proofs.lemmas.List.{map-append}
 use Rattle.std.proofs.lemmas.List.Sums.{fold-append}
@@ -9,18 +10,22 @@ use Rattle.flp_report.specs.declared.shape.Shape.{Shape}
 use Rattle.flp_report.specs.Record.{nonce_in}
 use Rattle.flp_known.specs.Order.{with_nonce, with_nonces}
 use Rattle.flp_policy.specs.declared.verdict.Verdict.{Verdict}
-use Rattle.flp_policy.specs.Counts.{no_more, counts_of}
+use Rattle.flp_policy.specs.Counts.{VerdictCounts, no_more, counts_of}
 use Rattle.flp_tally.specs.declared.view.View.{View}
-use Rattle.flp_pool.specs.Range.{TakesRange}
+use Rattle.flp_pool.specs.Range.{LacksRange, TakesRange}
 use Rattle.flp_pool.specs.Laws.{EmptyRuns, JoinedRuns}
 use Rattle.flp_batch.specs.Lines.{lines_from}
-use Rattle.flp_batch.specs.Walk.{JudgesSome}
+use Rattle.flp_batch.specs.Walk.{JudgesSome, Judges}
 use Rattle.flp_verdict.specs.Verdicts.{Judged, judged_after, judged_from}
 use Rattle.flp_verdict.specs.Text.{judged_lines}
 use Rattle.flp_verdict.specs.Release.{known_after}
+use Rattle.flp_verify.specs.declared.board.Board.{Board}
+use Rattle.flp_verify.specs.declared.engine.Ledger.{Ledger}
 use Rattle.flp_verify.specs.declared.front.Front.{Front}
+use Rattle.flp_verify.specs.declared.room.Room.{Room}
 use Rattle.flp_verify.specs.Rows.{row_in}
-use Rattle.flp_verify.specs.Settled.{Standing, IsBehind, Advances, setting_with, verdicts_from, found_behind, found_lines, found_row}
+use Rattle.flp_verify.specs.Numbers.{counts_in, places_in}
+use Rattle.flp_verify.specs.Settled.{IsRoomFor, IsBoardFor, IsBetween, seen_by, Standing, IsBehind, Advances, setting_with, verdicts_from, found_behind, found_lines, found_row}
 use Rattle.flp_verify.specs.Text.{verdict_line}
 use Rattle.flp_verify.specs.Told.{AreTold, beside}
 use Rattle.flp_verify.proofs.LineLemmas.{beside-is}
@@ -40,7 +45,7 @@ judged_from-joined program shape claims earlier (report ∷ reports) more =
     ∙ ap (λ (e : List (List ℕ)). judged_from program shape claims (earlier ++ report ∷ []) reports ++ judged_from program shape claims e more) (append_assoc earlier (report ∷ []) reports))
 
 -- the records of a segment beside their verdicts, behind those before it
-segment_judged : Front → Standing → (earlier records : List (List ℕ)) → List Judged
+abbrev segment_judged : Front → Standing → (earlier records : List (List ℕ)) → List Judged
 segment_judged front start earlier records = judged_from front.loaded.plan.circuit front.shape start.known earlier records
 
 verdicts-joined : (front : Front) (start : Standing) (earlier records : List (List ℕ))
@@ -117,3 +122,33 @@ segment-judges join front start old new earlier records taken taken' single othe
 pub segment-front : (front : Front) (start old : Standing) (earlier records : List (List ℕ)) (taken taken' : Option (List ℕ)) → IsBehind front start old earlier
     → TakesPrefix taken taken' (found_lines front old.known records) → TakesPrefix taken taken' (lines_from (verdict_line (setting_with front start.known)) earlier records)
 segment-front front start old earlier records taken taken' p front_written = subst (TakesPrefix taken taken') (found-lines front start old.known earlier records p.known) front_written
+
+-- ---- what stands between two segments
+
+-- a verdict is found on each record
+pub length-found : (front : Front) (known records : List (List ℕ)) → length (found_behind front known records) ≡ length records
+length-found front known [] = refl
+length-found front known (report ∷ records) = ap suc (length-found front (with_nonce known (nonce_in report)) records)
+
+-- in front of the first record
+pub none-free : (front : Front) (room : Room) (ledger : Ledger) → IsRoomFor front room → counts_in ledger.numbers ≡ no_more → ledger.board ≡ None → IsBetween front 0 room ledger
+none-free front room ledger is none no_board =
+    let sum : VerdictCounts → ℕ = λ n. n.accepted + n.rejected + n.in_domain + n.malformed + n.replayed in
+    record {
+      room = is;
+      board = subst (λ (b : Option Board). IfSome b (IsBoardFor front)) (sym no_board) tt;
+      places = ap sum none;
+      free = subst (λ (b : Option Board). LacksRange 0 front.header.reports (seen_by front b).claimed) (sym no_board) (λ x from below. refl);
+    }
+
+-- records that follow something are as many as they are
+pub Judges-counted : (size n : ℕ) (line : List (List ℕ) → List ℕ → List ℕ) (follows : List (List ℕ) → Type 0) (left left' taken taken' : Option (List ℕ))
+    → Judges size n line follows left left' taken taken' → Judges size n line (λ rs. (length rs ≡ n) × follows rs) left left' taken taken'
+Judges-counted size n line follows left left' taken taken' all = record {
+  records = all.records;
+  number = all.number;
+  sizes = all.sizes;
+  read = all.read;
+  follows_are = (all.number, all.follows_are);
+  written = all.written;
+}

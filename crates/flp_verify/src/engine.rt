@@ -1,16 +1,18 @@
 //! The walk through the records of a batch, segment by segment.
-ghost use Rattle.std.specs.Prelude.{◌≡◌, ◌+◌, ◌≤◌, ◌<◌, ◌^◌, ℕ, List, All, None, Err, OnOk, OnErr, IfErr, IsOk, length, map};
+ghost use Rattle.std.specs.Prelude.{◌≡◌, ◌+◌, ◌≤◌, All, None, Err, OnOk, OnErr, IfErr, IsOk, length, map, take, vec_len};
 ghost use Rattle.std.specs.Io.KnownBytes.{Appends, IsAtEnd};
 ghost use Rattle.flp_io.specs.Faults.{Uses};
 ghost use Rattle.flp_io.specs.Reads.{ConsumesAtMost};
 ghost use Rattle.flp_io.specs.Writes.{TakesPrefix};
 ghost use Rattle.flp_report.specs.Buckets.{HasBucket};
 ghost use Rattle.flp_report.specs.Nonces.{nonces_in};
+ghost use Rattle.flp_report.specs.Record.{nonce_in};
 ghost use Rattle.flp_report.specs.Reader.{source_of, SameLoan};
 ghost use Rattle.flp_report.specs.Segment.{shape_in, used_in, records_in};
 ghost use Rattle.flp_report.specs.Shape.{bytes_of};
 ghost use Rattle.flp_policy.specs.Counts.{no_more};
 ghost use Rattle.flp_known.specs.Known.{known_in};
+ghost use Rattle.flp_known.specs.Order.{with_nonces};
 ghost use Rattle.flp_pool.specs.Range.{LacksRange, TakesRange};
 ghost use Rattle.flp_round.specs.Crew.{workers_of, verdicts_of, IsCrewFor, room_of};
 ghost use Rattle.flp_round.specs.Findings.{verdicts_by, rows_by, row_from};
@@ -19,10 +21,12 @@ ghost use Rattle.flp_batch.specs.Fault.{IsOfInput};
 ghost use Rattle.flp_batch.specs.Front.{IsAtRecords};
 ghost use Rattle.flp_batch.specs.Opened.{IsRecordsFault, records_size};
 ghost use Rattle.flp_batch.specs.Walk.{Judges, Breaks};
+ghost use Rattle.flp_verify.specs.Marks.{marks_behind};
 ghost use Rattle.flp_verify.specs.Numbers.{counts_in};
 ghost use Rattle.flp_verify.specs.Settled.{IsRoomFor, IsBoardFor, IsBetween, IsBehind, Advances, standing, setting_with, opened_with, found_lines};
 ghost use Rattle.flp_verify.specs.Text.{verdict_line};
 
+use crate::Memory;
 use crate::board::Board;
 use crate::front::Front;
 use crate::lines::put_segment;
@@ -66,27 +70,45 @@ impl Ledger {
     }
 }
 
-/// Verifies the records of a segment, the first of which has this place in the batch, on the tally.
+/// Marks which of the `count` records in a segment are replayed, in the first places of these marks.
+fn mark_within(
+    known: &mut Known,
+    segment: &Segment,
+    count: u32,
+    marks: &mut Vec<bool>,
+) -> Result<(), Memory>
+    requires used { used_in segment.now ≡ count }
+    requires places { count ≤ vec_len marks.old }
+    ensures size { vec_len marks.new ≡ vec_len marks.old }
+    ensures marked { OnOk result (take count marks.new.items ≡ marks_behind (known_in known.old) (records_in segment.now)) }
+    ensures known { OnOk result (known_in known.new ≡ with_nonces (known_in known.old) (map nonce_in (records_in segment.now))) }
+{
+    mark(known, segment, count, &mut marks[..count as usize])
+}
+
+/// Verifies the `count` records of a segment, the first of which has this place in the batch, on the tally. The first of the
+/// marks say which of them are replayed.
 fn verify_round<R: Threads + Sync, G: Gate>(
     rt: &R,
     front: &Front,
     first: u32,
+    count: u32,
     segment: &Segment,
-    replayed: &[bool],
+    marks: &[bool],
     board: Board,
     crew: &mut Crew,
     gate: &G,
 ) -> Board
-    requires segment { (shape_in segment.now ≡ front.now.shape) × (length replayed.now ≡ used_in segment.now) × (used_in segment.now ≤ room_of crew.old) }
+    requires segment { (shape_in segment.now ≡ front.now.shape) × (used_in segment.now ≡ count) }
+    requires places { (count ≤ length marks.now) × (count ≤ room_of crew.old) × (first + count ≤ front.now.header.reports) }
     requires buckets { All (HasBucket front.now.shape) (records_in segment.now) }
     requires crew { IsCrewFor front.now.loaded.plan front.now.shape crew.old × (workers_of crew.old ≡ front.now.workers) }
     requires board { IsBoardFor front.now board }
-    requires places { first + used_in segment.now ≤ front.now.header.reports }
     requires free { LacksRange first front.now.header.reports board.seat.view.claimed }
     ensures board { IsBoardFor front.now result }
-    ensures taken { TakesRange (row_from first (rows_by front.now.loaded.plan.circuit front.now.shape replayed.now (records_in segment.now))) first (first + used_in segment.now) board.seat.view result.seat.view }
-    ensures free { LacksRange (first + used_in segment.now) front.now.header.reports result.seat.view.claimed }
-    ensures verdicts { verdicts_of crew.new ≡ verdicts_by front.now.loaded.plan.circuit front.now.shape replayed.now (records_in segment.now) }
+    ensures taken { TakesRange (row_from first (rows_by front.now.loaded.plan.circuit front.now.shape (take count marks.now) (records_in segment.now))) first (first + count) board.seat.view result.seat.view }
+    ensures free { LacksRange (first + count) front.now.header.reports result.seat.view.claimed }
+    ensures verdicts { verdicts_of crew.new ≡ verdicts_by front.now.loaded.plan.circuit front.now.shape (take count marks.now) (records_in segment.now) }
     ensures crew { IsCrewFor front.now.loaded.plan front.now.shape crew.new × (room_of crew.new ≡ room_of crew.old) × (workers_of crew.new ≡ workers_of crew.old) }
 {
     let Board { tally, seat } = board;
@@ -94,7 +116,7 @@ fn verify_round<R: Threads + Sync, G: Gate>(
         plan: &front.loaded.plan,
         shape: front.shape,
         segment,
-        replayed,
+        replayed: &marks[..count as usize],
         first,
     };
     let seat = verify_segment(rt, &round, &tally, seat, crew, gate);
@@ -129,15 +151,15 @@ fn pass_segment<R: Threads + Sync, K: Sink, G: Gate>(
     ensures cause { IfErr result (λ fault. IsOfInput fault → ⊥) }
     ensures sink { Uses K.faults K.ready output.old output.new (result ≡ Err EngineFault.Write) (IsOk result) }
 {
-    let replayed = &mut room.marks[..count as usize];
-    mark(&mut ledger.known, &room.segment, count, replayed)?;
+    mark_within(&mut ledger.known, &room.segment, count, &mut room.marks)?;
     let board = Board::there_or_new(alloc, ledger.board.take(), front)?;
     let board = verify_round(
         rt,
         front,
         first,
+        count,
         &room.segment,
-        replayed,
+        &room.marks,
         board,
         &mut room.crew,
         gate,
@@ -186,6 +208,8 @@ pub(crate) fn verify_records<R: Threads + Sync, S: Source, K: Sink, G: Gate>(
     ensures ends { Ends (IsRecordsFault (opened_with front.now ledger.old.known.claims)) (ConsumesAtMost (records_size (opened_with front.now ledger.old.known.claims) + 1))
         (S.left (source_of reader.old)) (S.left (source_of reader.new)) (S.faults (source_of reader.old)) (S.faults (source_of reader.new)) (K.faults output.old) (K.faults output.new) result }
 {
+    flp_pool::laws::nothing_is_taken();
+    flp_pool::laws::runs_join();
     let reports = front.header.reports;
     let most = front.shape.segment();
     let mut settled = 0;

@@ -1,0 +1,92 @@
+use Rattle.std.proofs.Common.{rules, ◌≡◌, ◌+◌, ◌++◌, ℕ, Bool, List, length, map, take, get_or, sym, ap, subst, ◌∙◌}
+use Rattle.std.specs.Prelude.{nat_le}
+use Rattle.flp_io.proofs.WriteLemmas.{TakesPrefix-refl}
+use Rattle.flp_report.specs.Segment.{used_in, records_in}
+use Rattle.flp_report.proofs.SegmentLemmas.{IsCut-held}
+use Rattle.flp_policy.specs.declared.verdict.Verdict.{Verdict}
+use Rattle.flp_policy.specs.Counts.{VerdictCounts, counts_of}
+use Rattle.flp_known.specs.Known.{known_in}
+use Rattle.flp_tally.specs.declared.view.View.{View}
+use Rattle.flp_pool.specs.Range.{LacksRange, TakesRange}
+use Rattle.flp_batch.proofs.OutcomeLemmas.{OnErr-always}
+use Rattle.flp_round.specs.Crew.{verdicts_of}
+use Rattle.flp_round.specs.Findings.{verdicts_by, rows_by, row_from}
+use Rattle.flp_verify.specs.Marks.{marks_behind}
+use Rattle.flp_verify.specs.Settled.{seen_by, found_behind}
+use Rattle.flp_verify.specs.Told.{AreTold}
+use Rattle.flp_verify.proofs.SettledLemmas.{length-found}
+use Rattle.flp_verify.proofs.engine.pass_segment.Goals as goal
+
+pub returns-in_err-mark_within-clause-front : goal.returns-in_err-mark_within-clause-front
+returns-in_err-mark_within-clause-front g c = OnErr-always c.from_residual.result (TakesPrefix-refl (g.K.Sink.taken c.args.output.now) _)
+
+pub returns-in_err-board-clause-front : goal.returns-in_err-board-clause-front
+returns-in_err-board-clause-front g c = OnErr-always c.from_residual-in_err-board.result (TakesPrefix-refl (g.K.Sink.taken c.args.output.now) _)
+
+pub verify_round-board-requires-clause-free : goal.verify_round-board-requires-clause-free
+verify_round-board-requires-clause-free g c κs within =
+    let seen : c.in_ok-board.board.seat.view ≡ seen_by c.args.front.now c.args.ledger.now.board = search rules in
+    subst (λ (v : View). LacksRange c.args.first c.args.front.now.header.reports v.claimed) (sym seen) c.requires.between.free
+
+pub tell_segment-requires-clause-count : goal.tell_segment-requires-clause-count
+tell_segment-requires-clause-count g c =
+    let front = c.args.front.now in
+    let records = records_in c.args.room.now.segment in
+    let known = known_in c.args.ledger.now.known in
+    let found : verdicts_of c.verify_round-board.new.crew ≡ found_behind front known records =
+    c.verify_round-board.ensures.verdicts ∙ ap (λ (m : List Bool). verdicts_by front.loaded.plan.circuit front.shape m records) c.in_ok-mark_within.ensures.marked in
+    sym (ap (λ (l : List Verdict). length l) found ∙ (length-found front known records ∙ ((IsCut-held c.args.room.now.segment).number ∙ c.requires.count.0)))
+
+pub put_segment-requires-clause-verdicts : goal.put_segment-requires-clause-verdicts
+put_segment-requires-clause-verdicts g c =
+    let front = c.args.front.now in
+    let records = records_in c.args.room.now.segment in
+    let known = known_in c.args.ledger.now.known in
+    let found : verdicts_of c.verify_round-board.new.crew ≡ found_behind front known records =
+    c.verify_round-board.ensures.verdicts ∙ ap (λ (m : List Bool). verdicts_by front.loaded.plan.circuit front.shape m records) c.in_ok-mark_within.ensures.marked in
+    sym (ap (λ (l : List Verdict). length l) found ∙ (length-found front known records ∙ ((IsCut-held c.args.room.now.segment).number ∙ c.requires.count.0)))
+
+pub returns-in-Ok-clause-between : goal.returns-in-Ok-clause-between
+returns-in-Ok-clause-between g c =
+    let before = c.requires.between in
+    let verified = c.verify_round-board.ensures in
+    record {
+      room = record {
+        shape = before.room.shape;
+        records = before.room.records;
+        marks = c.in_ok-mark_within.ensures.size ∙ before.room.marks;
+        crew = verified.crew.0;
+        verdicts = verified.crew.1 ∙ before.room.verdicts;
+        workers = verified.crew.2 ∙ before.room.workers;
+        empty = c.in-Ok.ensures.empty;
+      };
+      board = verified.board;
+      places = c.tell_segment.ensures.places ∙ ap (λ (n : ℕ). n + c.args.count) before.places;
+      free = verified.free;
+    }
+
+pub returns-in-Ok-clause-advances : goal.returns-in-Ok-clause-advances
+returns-in-Ok-clause-advances g c =
+    let front = c.args.front.now in
+    let plan = front.loaded.plan in
+    let old = c.args.ledger.now in
+    let records = records_in c.args.room.now.segment in
+    let verified = c.verify_round-board.ensures in
+    let told = c.tell_segment.ensures in
+    let number : length records ≡ c.args.count = (IsCut-held c.args.room.now.segment).number ∙ c.requires.count.0 in
+    let seen : c.in_ok-board.board.seat.view ≡ seen_by front old.board = search rules in
+    let marks = take c.args.count c.mark_within.new.marks.items in
+    let marked : marks ≡ marks_behind (known_in old.known) records = c.in_ok-mark_within.ensures.marked in
+    let found : verdicts_of c.verify_round-board.new.crew ≡ found_behind front (known_in old.known) records =
+    verified.verdicts ∙ ap (λ (m : List Bool). verdicts_by plan.circuit front.shape m records) marked in
+    let P : ℕ → View → List Bool → Type 0 = λ n v m. TakesRange (row_from c.args.first (rows_by plan.circuit front.shape m records)) c.args.first (c.args.first + n) v c.verify_round-board.result.seat.view in
+    let lets : List ℕ → VerdictCounts → ℕ → Bool = λ needed more of. nat_le (get_or needed of 0) more.accepted in
+    record {
+      known = c.in_ok-mark_within.ensures.known;
+      counts = λ before is. told.counted before is ∙ ap (λ (l : List Verdict). counts_of (before ++ l)) found;
+      floor = subst (λ (l : List Verdict). AreTold {B = Bool} 0 l (lets old.floor.needed) (lets c.tell_segment.new.floor.needed)) found told.floor;
+      answers = subst (λ (l : List Verdict). AreTold {B = List Bool} 0 l (λ more of. map (λ p. (goal.Policy-dyn g (p.vtable, p.value)).would p.value more of) c.args.policies.now) (λ more of. map (λ p. (goal.Policy-dyn g (p.vtable, p.value)).would p.value more of) c.tell_segment.new.policies)) found told.policies;
+      view = subst (λ (n : ℕ). P n (seen_by front old.board) (marks_behind (known_in old.known) records)) (sym number)
+          (subst (λ (v : View). P c.args.count v (marks_behind (known_in old.known) records)) seen
+          (subst (λ (m : List Bool). P c.args.count c.in_ok-board.board.seat.view m) marked verified.taken));
+    }
