@@ -1,10 +1,14 @@
 -- What the calls of this crate answer of a whole batch, by the bytes that they read and wrote.
-use Rattle.std.specs.Prelude.{ℕ, ◌≡◌, ◌<◌, List, Bool, Option, None}
+use Rattle.std.specs.Prelude.{ℕ, ◌≡◌, List, All, Bool, Option, None, length}
+use Rattle.std.specs.List.{concat}
 use Rattle.std.specs.Io.KnownBytes.{Consumes, Appends, IsAtEnd}
 use Rattle.flp_syntax.specs.declared.syntax.Params.{Params}
 use Rattle.flp_report.specs.Batch.{whole_records}
+use Rattle.flp_report.specs.Shape.{bytes_of}
+use Rattle.flp_batch.specs.declared.front.Opened.{Opened}
 use Rattle.flp_batch.specs.Format.{newest_read}
 use Rattle.flp_batch.specs.File.{IsBatch}
+use Rattle.flp_batch.specs.Opened.{setting_of}
 use Rattle.flp_batch.specs.Reply.{text_on}
 use Rattle.flp_batch.specs.Setting.{Setting}
 use Rattle.flp_verdict.specs.Release.{Answers}
@@ -12,15 +16,30 @@ use Rattle.flp_verify.specs.declared.counted.Counted.{Counted}
 use Rattle.flp_verify.specs.declared.counted.End.{End}
 use Rattle.flp_verify.specs.Counted.{withheld_by}
 use Rattle.flp_verify.specs.Laws.{IsCounted}
-use Rattle.flp_verify.specs.Text.{verdict_lines, refused_by, released_by}
+use Rattle.flp_verify.specs.Text.{verdicts_by, verdict_lines, refused_by, released_by}
+use Rattle.flp_verify.specs.Told.{AreTold}
 
 -- the records of a batch of these bytes
 abbrev pub records_on : (bytes : List ℕ) → Setting → List (List ℕ)
 records_on bytes setting = whole_records newest_read None setting.shape bytes
 
--- the input was read to its end and is a batch, the output grew by exactly the lines of its records, and this is what is known
--- of it
-pub record Counts (least : ℕ) (would : Answers) (counted : Counted) (left left' taken taken' : Option (List ℕ)) : Type 0 where
+-- ---- a batch that was counted, where the policies would at first have answered so, and at last
+
+-- behind what was opened all records were read, and then the end of the input; their lines were written, and this is what is
+-- known of them
+pub record CountsRecords (o : Opened) (least : ℕ) (would asked : Answers) (counted : Counted) (left left' taken taken' : Option (List ℕ)) : Type 0 where
+  pub records : List (List ℕ)
+  pub number : length records ≡ o.header.reports
+  pub sizes : All (λ r. length r ≡ bytes_of o.shape) records
+  pub read : Consumes left left' (concat records)
+  pub ended : IsAtEnd left'
+  pub written : Appends taken taken' (verdict_lines (setting_of o) records)
+  pub counted_is : IsCounted (setting_of o) least would records counted
+  pub told : AreTold 0 (verdicts_by (setting_of o) records) would asked
+
+-- the input was read to its end and is a batch, the output grew by exactly the lines of its records, this is what is known of
+-- it, and the policies were told all verdicts
+pub record Counts (least : ℕ) (would asked : Answers) (counted : Counted) (left left' taken taken' : Option (List ℕ)) : Type 0 where
   pub bytes : List ℕ
   pub params : Option Params
   pub setting : Setting
@@ -29,6 +48,9 @@ pub record Counts (least : ℕ) (would : Answers) (counted : Counted) (left left
   pub is_batch : IsBatch None bytes params setting
   pub written : Appends taken taken' (text_on None verdict_lines bytes setting)
   pub counted_is : IsCounted setting least would (records_on bytes setting) counted
+  pub told : AreTold 0 (verdicts_by setting (records_on bytes setting)) would asked
+
+-- ---- and released
 
 -- the input was read to its end and is a batch, the output grew by exactly its text, and this is how its aggregate ended
 pub record Releases (least : ℕ) (would : Answers) (claims : Bool) (end : End) (left left' taken taken' : Option (List ℕ)) : Type 0 where

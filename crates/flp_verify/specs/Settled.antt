@@ -1,6 +1,6 @@
 -- What is kept of the records of a batch while they are verified segment by segment, and what one segment does to it. From
 -- what stands in front of the records up.
-use Rattle.std.specs.Prelude.{◌≡◌, ℕ, ◌+◌, ◌≤◌, Bool, Option, None, Some, IfSome, List, [], ◌++◌, length, map, min, vec_len}
+use Rattle.std.specs.Prelude.{◌≡◌, ℕ, ◌+◌, ◌<◌, Bool, Option, None, Some, IfSome, List, [], ◌++◌, length, map, min, vec_len, nat_le}
 use Rattle.flp_report.specs.declared.nonces.Nonces.{Nonces}
 use Rattle.flp_report.specs.Record.{nonce_in}
 use Rattle.flp_report.specs.Segment as segment
@@ -10,7 +10,7 @@ use Rattle.flp_known.specs.Order.{with_nonces}
 use Rattle.flp_batch.specs.declared.front.Opened.{Opened}
 use Rattle.flp_batch.specs.Setting.{Setting}
 use Rattle.flp_policy.specs.declared.verdict.Verdict.{Verdict}
-use Rattle.flp_policy.specs.Counts.{VerdictCounts, counts_of}
+use Rattle.flp_policy.specs.Counts.{VerdictCounts, no_more, counts_of}
 use Rattle.flp_tally.specs.declared.view.View.{View}
 use Rattle.flp_tally.specs.Views.{first_view}
 use Rattle.flp_pool.specs.Range.{LacksRange, TakesRange}
@@ -84,6 +84,12 @@ pub record Standing : Type 0 where
 abbrev pub standing : Front → Ledger → (floor : VerdictCounts → ℕ → Bool) → Answers → Standing
 standing front ledger floor answers =
     record { known = known_in ledger.known; counts = counts_in ledger.numbers; floor = floor; answers = answers; view = seen_by front ledger.board }
+
+-- before the first record: no verdict is counted, the floor wants `least` accepted records, and the seat did nothing
+pub record IsStart (front : Front) (least : ℕ) (start : Standing) : Type 0 where
+  pub counts : start.counts ≡ no_more
+  pub floor : (more : VerdictCounts) (of : ℕ) → of < 256 → start.floor more of ≡ nat_le least more.accepted
+  pub view : start.view ≡ seen_by front None
 
 -- the verdicts on records, by what is known at first
 abbrev pub verdicts_from : Front → (start : Standing) → (records : List (List ℕ)) → List Verdict

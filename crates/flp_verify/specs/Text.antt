@@ -1,13 +1,18 @@
 -- What `verify` writes of a batch, from what its records are judged by and the records.
 use Rattle.std.specs.Prelude.{ℕ, List, Bool, Option}
 use Rattle.flp_batch.specs.Setting.{Setting}
-use Rattle.flp_verdict.specs.Verdicts.{Judged, judged, judged_after}
+use Rattle.flp_policy.specs.declared.verdict.Verdict.{Verdict}
+use Rattle.flp_verdict.specs.Verdicts.{Judged, judged, judged_after, verdicts_of}
 use Rattle.flp_verdict.specs.Text.{line_of, judged_lines}
 use Rattle.flp_verdict.specs.Release.{Answers, withheld_from, released_text}
 
 -- each record beside its verdict
 abbrev pub judged_by : Setting → (reports : List (List ℕ)) → List Judged
 judged_by by reports = judged by.circuit by.shape by.claims reports
+
+-- the verdicts alone
+abbrev pub verdicts_by : Setting → (reports : List (List ℕ)) → List Verdict
+verdicts_by by reports = verdicts_of by.circuit by.shape by.claims reports
 
 -- the line of a record behind earlier ones
 abbrev pub verdict_line : Setting → (earlier : List (List ℕ)) → (report : List ℕ) → List ℕ

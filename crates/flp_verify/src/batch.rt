@@ -1,9 +1,8 @@
 //! A batch that is verified, from its bytes to what is known of it.
-ghost use Rattle.std.specs.Prelude.{◌≡◌, ◌≤◌, ◌<◌, ◌^◌, ◌-◌, ℕ, List, None, Err, IfOk, IfErr, OnErr, length, map};
+ghost use Rattle.std.specs.Prelude.{◌≡◌, ◌≤◌, ◌<◌, ◌^◌, ◌-◌, ℕ, List, Option, None, Err, IfOk, IfErr, IfSome, OnOk, OnErr, length, map};
 ghost use Rattle.std.specs.Io.KnownBytes.{Keeps};
 ghost use Rattle.flp_io.specs.Reads.{ConsumesAtMost};
 ghost use Rattle.flp_report.specs.Reader.{source_of, SameLoan, place_of};
-ghost use Rattle.flp_report.specs.Shape.{bytes_of};
 ghost use Rattle.flp_batch.specs.Ends.{Ends};
 ghost use Rattle.flp_batch.specs.Fault.{IsOfFront, IsOfInput};
 ghost use Rattle.flp_batch.specs.File.{IsFault, TakesFew};
@@ -11,11 +10,10 @@ ghost use Rattle.flp_batch.specs.Format.{batches};
 ghost use Rattle.flp_batch.specs.Opened.{IsOpened, IsReady, IsRecordsFault, records_size, setting_of};
 ghost use Rattle.flp_batch.specs.Reply.{StopsEarly, SettlesEarly};
 ghost use Rattle.flp_batch.specs.Walk.{Breaks};
-ghost use Rattle.flp_known.specs.Known.{known_in};
 ghost use Rattle.flp_verify.specs.Counted.{withheld_by};
-ghost use Rattle.flp_verify.specs.Numbers.{counts_in};
-ghost use Rattle.flp_verify.specs.Reply.{Counts};
-ghost use Rattle.flp_verify.specs.Settled.{IsBoardFor, seen_by};
+ghost use Rattle.flp_verify.specs.Laws.{IsCounted};
+ghost use Rattle.flp_verify.specs.Reply.{Counts, CountsRecords};
+ghost use Rattle.flp_verify.specs.Settled.{Standing, IsBoardFor, IsStart, IsBehind, setting_with, standing};
 ghost use Rattle.flp_verify.specs.Text.{verdict_line, verdict_lines};
 
 use crate::Memory;
@@ -27,11 +25,21 @@ use crate::policies::first_refusal;
 use crate::room::Room;
 use flp_batch::{EngineFault, Opened, open};
 use flp_io::{Sink, Source};
-use flp_policy::Policy;
+use flp_policy::{Floor, Policy};
 use flp_pool::Gate;
 use flp_report::BatchReader;
 use std::alloc::Global;
 use std::thread::Threads;
+
+/// How a batch ends that this policy does not allow to be released, or that all allow.
+fn end_by(refusal: Option<u32>) -> End
+    ensures { withheld_by result ≡ refusal }
+{
+    match refusal {
+        None => End::Released,
+        Some(policy) => End::Withheld(policy),
+    }
+}
 
 /// What is known of a batch whose records were all verified: the policies are asked in their order.
 fn conclude(
@@ -40,6 +48,11 @@ fn conclude(
     ledger: Ledger,
     policies: &[Box<dyn Policy>],
 ) -> Result<Counted, Memory>
+    requires board { IfSome ledger.board (IsBoardFor front.now) }
+    requires few { length policies.now < 2 ^ 32 - 1 }
+    ensures { (least : ℕ) (start : Standing) (records : List (List ℕ)) → IsStart front.now least start
+        → IsBehind front.now start (standing front.now ledger (⟦<Floor as Policy>⟧.would ledger.floor) (λ more of. map (λ p. would p more of) policies.now)) records
+        → IfOk result (IsCounted (setting_with front.now start.known) least start.answers records) }
 {
     let Ledger {
         known,
@@ -48,10 +61,7 @@ fn conclude(
         board,
     } = ledger;
     let Board { tally, seat } = Board::there_or_new(alloc, board, front)?;
-    let end = match first_refusal(&floor, policies, 0) {
-        None => End::Released,
-        Some(policy) => End::Withheld(policy),
-    };
+    let end = end_by(first_refusal(&floor, policies, 0));
     Ok(Counted {
         outs: front.shape.outs,
         numbers,
@@ -74,6 +84,19 @@ fn verify_opened<R: Threads + Sync, S: Source, K: Sink, G: Gate>(
     gate: &G,
     policies: &mut [Box<dyn Policy>],
 ) -> Result<Counted, EngineFault>
+    requires ready { IsReady reader.old opened }
+    requires opened { IsOpened None opened }
+    requires streams { S.ready (source_of reader.old) × K.ready output.old }
+    requires workers { (1 ≤ workers) × (workers ≤ 16) }
+    requires few { length policies.old < 2 ^ 32 - 1 }
+    ensures same { SameLoan reader.old reader.new }
+    ensures done { IfOk result (λ counted. CountsRecords opened least (λ more of. map (λ p. would p more of) policies.old) (λ more of. map (λ p. would p more of) policies.new) counted
+        (S.left (source_of reader.old)) (S.left (source_of reader.new)) (K.taken output.old) (K.taken output.new)) }
+    ensures writable { OnOk result (K.ready output.new) }
+    ensures breaks { IfErr result (λ fault. Breaks fault opened.shape opened.header.reports (verdict_line (setting_of opened))
+        (S.left (source_of reader.old)) (S.left (source_of reader.new)) (K.taken output.old) (K.taken output.new)) }
+    ensures ends { Ends (IsRecordsFault opened) (ConsumesAtMost (records_size opened + 1)) (S.left (source_of reader.old)) (S.left (source_of reader.new))
+        (S.faults (source_of reader.old)) (S.faults (source_of reader.new)) (K.faults output.old) (K.faults output.new) result }
 {
     let Opened {
         header,
@@ -94,7 +117,10 @@ fn verify_opened<R: Threads + Sync, S: Source, K: Sink, G: Gate>(
     ) {
         return Err(fault);
     }
-    Ok(conclude(alloc, &front, ledger, policies)?)
+    match conclude(alloc, &front, ledger, policies) {
+        Ok(counted) => Ok(counted),
+        Err(_) => Err(EngineFault::Memory),
+    }
 }
 
 /// Opens a batch and verifies its records.
@@ -108,6 +134,19 @@ fn verify_file<R: Threads + Sync, S: Source, K: Sink, G: Gate>(
     gate: &G,
     policies: &mut [Box<dyn Policy>],
 ) -> Result<Counted, EngineFault>
+    requires place { place_of reader.old ≡ 0 }
+    requires streams { S.ready (source_of reader.old) × K.ready output.old }
+    requires workers { (1 ≤ workers) × (workers ≤ 16) }
+    requires few { length policies.old < 2 ^ 32 - 1 }
+    ensures same { SameLoan reader.old reader.new }
+    ensures done { IfOk result (λ counted. Counts least (λ more of. map (λ p. would p more of) policies.old) (λ more of. map (λ p. would p more of) policies.new) counted
+        (S.left (source_of reader.old)) (S.left (source_of reader.new)) (K.taken output.old) (K.taken output.new)) }
+    ensures writable { OnOk result (K.ready output.new) }
+    ensures stopped { OnErr result (StopsEarly None verdict_lines (S.left (source_of reader.old)) (S.left (source_of reader.new)) (K.taken output.old) (K.taken output.new)) }
+    ensures settled { IfErr result (λ fault. IsOfInput fault → SettlesEarly None verdict_lines (S.left (source_of reader.old)) (S.left (source_of reader.new)) (K.taken output.old) (K.taken output.new)) }
+    ensures kept { IfErr result (λ fault. IsOfFront fault → Keeps (K.taken output.old) (K.taken output.new)) }
+    ensures ends { Ends (IsFault (batches None)) (TakesFew (batches None)) (S.left (source_of reader.old)) (S.left (source_of reader.new))
+        (S.faults (source_of reader.old)) (S.faults (source_of reader.new)) (K.faults output.old) (K.faults output.new) result }
 {
     match open(alloc, reader, None) {
         Ok(opened) => verify_opened(
@@ -139,6 +178,18 @@ pub fn verify_batch<R: Threads + Sync, S: Source, K: Sink, G: Gate>(
     gate: &G,
     policies: &mut [Box<dyn Policy>],
 ) -> Result<Counted, EngineFault>
+    requires readable { S.ready input.old }
+    requires writable { K.ready output.old }
+    requires workers { (1 ≤ workers) × (workers ≤ 16) }
+    requires few { length policies.old < 2 ^ 32 - 1 }
+    ensures done { IfOk result (λ counted. Counts least (λ more of. map (λ p. would p more of) policies.old) (λ more of. map (λ p. would p more of) policies.new) counted
+        (S.left input.old) (S.left input.new) (K.taken output.old) (K.taken output.new)) }
+    ensures writable { OnOk result (K.ready output.new) }
+    ensures stopped { OnErr result (StopsEarly None verdict_lines (S.left input.old) (S.left input.new) (K.taken output.old) (K.taken output.new)) }
+    ensures settled { IfErr result (λ fault. IsOfInput fault → SettlesEarly None verdict_lines (S.left input.old) (S.left input.new) (K.taken output.old) (K.taken output.new)) }
+    ensures kept { IfErr result (λ fault. IsOfFront fault → Keeps (K.taken output.old) (K.taken output.new)) }
+    ensures ends { Ends (IsFault (batches None)) (TakesFew (batches None)) (S.left input.old) (S.left input.new)
+        (S.faults input.old) (S.faults input.new) (K.faults output.old) (K.faults output.new) result }
 {
     let mut reader = BatchReader::new(input);
     verify_file(

@@ -38,7 +38,19 @@ pub fn verify<R: Threads + Sync, S: Source, K: Sink, G: Gate>(
     gate: &G,
     policies: &mut [Box<dyn Policy>],
 ) -> Result<End, EngineFault>
+    requires readable { S.ready input.old }
+    requires writable { K.ready output.old }
+    requires workers { (1 ≤ workers) × (workers ≤ 16) }
+    requires few { length policies.old < 2 ^ 32 - 1 }
+    ensures done { IfOk result (λ end. Releases least (λ more of. map (λ p. would p more of) policies.old) claims end
+        (S.left input.old) (S.left input.new) (K.taken output.old) (K.taken output.new)) }
+    ensures stopped { OnErr result (StopsEarly None verdict_lines (S.left input.old) (S.left input.new) (K.taken output.old) (K.taken output.new)
+        ⊎ ((result ≡ Err EngineFault.Write) × StopsInText None (released_by least (λ more of. map (λ p. would p more of) policies.old) claims) (S.left input.old) (S.left input.new) (K.taken output.old) (K.taken output.new))) }
+    ensures settled { IfErr result (λ fault. IsOfInput fault → SettlesEarly None verdict_lines (S.left input.old) (S.left input.new) (K.taken output.old) (K.taken output.new)) }
+    ensures kept { IfErr result (λ fault. IsOfFront fault → Keeps (K.taken output.old) (K.taken output.new)) }
+    ensures ends { Ends (IsFault (batches None)) (TakesFew (batches None)) (S.left input.old) (S.left input.new) (S.faults input.old) (S.faults input.new) (K.faults output.old) (K.faults output.new) result }
 {
+    crate::laws::ending_is_released();
     let counted = match verify_batch(rt, alloc, input, output, workers, least, gate, policies) {
         Ok(counted) => counted,
         Err(fault) => return Err(fault),

@@ -1,5 +1,5 @@
 //! The walk through the records of a batch, segment by segment.
-ghost use Rattle.std.specs.Prelude.{◌≡◌, ◌+◌, ◌≤◌, All, None, Err, OnOk, OnErr, IfErr, IsOk, length, map, take, vec_len};
+ghost use Rattle.std.specs.Prelude.{◌≡◌, ◌+◌, ◌<◌, ◌≤◌, ℕ, All, None, Err, OnOk, OnErr, IfErr, IsOk, length, map, take, nat_le, vec_len};
 ghost use Rattle.std.specs.Io.KnownBytes.{Appends, IsAtEnd};
 ghost use Rattle.flp_io.specs.Faults.{Uses};
 ghost use Rattle.flp_io.specs.Reads.{ConsumesAtMost};
@@ -10,7 +10,7 @@ ghost use Rattle.flp_report.specs.Record.{nonce_in};
 ghost use Rattle.flp_report.specs.Reader.{source_of, SameLoan};
 ghost use Rattle.flp_report.specs.Segment.{shape_in, used_in, records_in};
 ghost use Rattle.flp_report.specs.Shape.{bytes_of};
-ghost use Rattle.flp_policy.specs.Counts.{no_more};
+ghost use Rattle.flp_policy.specs.Counts.{VerdictCounts, no_more};
 ghost use Rattle.flp_known.specs.Known.{known_in};
 ghost use Rattle.flp_known.specs.Order.{with_nonces};
 ghost use Rattle.flp_pool.specs.Range.{LacksRange, TakesRange};
@@ -60,6 +60,7 @@ impl Ledger {
         ensures known { known_in result.known ≡ nonces_in claims }
         ensures counts { counts_in result.numbers ≡ no_more }
         ensures board { result.board ≡ None }
+        ensures floor { (more : VerdictCounts) (of : ℕ) → of < 256 → ⟦<Floor as Policy>⟧.would result.floor more of ≡ nat_le least more.accepted }
     {
         Ledger {
             known: Known::of_claims(alloc, claims),
