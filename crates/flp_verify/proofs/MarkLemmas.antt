@@ -1,5 +1,5 @@
 -- Which records are replayed: one record more, and what the marks say of a batch.
-use Rattle.std.proofs.Common.{◌≡◌, ◌≢◌, ℕ, zero, suc, ◌+◌, ◌-◌, ◌*◌, ◌==◌, ◌<◌, ◌≤◌, List, [], ◌∷◌, ◌++◌, length, map, get_or, take, set, replicate, Bool, true, false, not, Option, Some, None, refl, sym, ap, ap₂, ◌∙◌, arith, length-append, append_assoc, append-nil}
+use Rattle.std.proofs.Common.{◌≡◌, ◌≢◌, ℕ, zero, suc, ◌+◌, ◌-◌, ◌*◌, ◌<◌, ◌≤◌, List, [], ◌∷◌, ◌++◌, length, map, get_or, take, set, replicate, Bool, not, Some, None, refl, sym, ap, ap₂, ◌∙◌, arith, length-append, append_assoc, append-nil}
 use Rattle.std.specs.Prelude.{slice_get, if◌then◌else◌}
 use Rattle.std.proofs.lemmas.Bool.{ne_eqb}
 use Rattle.std.proofs.lemmas.List.{map-append, take_more_set}
@@ -17,8 +17,9 @@ use Rattle.flp_policy.specs.declared.verdict.Verdict.TheVariants.{Replayed}
 use Rattle.flp_policy.specs.Verdicts.{is_accepted}
 use Rattle.flp_worker.specs.Verdict.{verdict_of, outs_in}
 use Rattle.flp_batch.specs.Setting.{Setting}
-use Rattle.flp_verdict.specs.Verdicts.{Judged, judged_from, verdict_after}
+use Rattle.flp_verdict.specs.Verdicts.{Judged, judged_after, judged_from, verdict_after, verdicts_of}
 use Rattle.flp_verdict.specs.Laws.{report_at, verdict_at}
+use Rattle.flp_verdict.specs.Release.{known_after}
 use Rattle.flp_verdict.proofs.PlaceLemmas.{at-place}
 use Rattle.flp_round.specs.Findings.{verdicts_by, rows_by, row_with, outs_row, row_on, row_from}
 use Rattle.flp_verify.specs.Marks.{marks_behind}
@@ -88,6 +89,34 @@ verdicts-marked by earlier (report ∷ records) =
     ap₂ (λ (b : Bool) (l : List Verdict). (if b then Replayed else verdict_of by.circuit by.shape report) ∷ l)
     (is_among-with_nonces by.claims (map nonce_in earlier) (nonce_in report))
     (ap rest (sym (with_nonces-more by.claims earlier report)) ∙ verdicts-marked by (earlier ++ report ∷ []) records)
+
+-- the records are judged one list after the other
+judged_from-append : (by : Setting) (earlier first more : List (List ℕ))
+    → judged_from by.circuit by.shape by.claims earlier (first ++ more)
+    ≡ judged_from by.circuit by.shape by.claims earlier first ++ judged_from by.circuit by.shape by.claims (earlier ++ first) more
+judged_from-append by earlier [] more = ap (λ (l : List (List ℕ)). judged_from by.circuit by.shape by.claims l more) (sym (append-nil earlier))
+judged_from-append by earlier (report ∷ first) more =
+    ap (λ (l : List Judged). judged_after by.circuit by.shape by.claims earlier report ∷ l)
+    (judged_from-append by (earlier ++ report ∷ []) first more
+    ∙ ap
+    (λ (l : List (List ℕ)). judged_from by.circuit by.shape by.claims (earlier ++ report ∷ []) first ++ judged_from by.circuit by.shape by.claims l more)
+    (append_assoc earlier (report ∷ []) first))
+
+-- so they are the verdicts of the batch behind those of the earlier records
+pub verdicts-more : (by : Setting) (earlier records : List (List ℕ))
+    → verdicts_of by.circuit by.shape by.claims (earlier ++ records)
+    ≡ verdicts_of by.circuit by.shape by.claims earlier
+    ++ verdicts_by by.circuit by.shape (marks_behind (with_nonces by.claims (map nonce_in earlier)) records) records
+verdicts-more by earlier records =
+    let verdict : Judged → Verdict = λ j. j.verdict in
+    ap (map verdict) (judged_from-append by [] earlier records)
+    ∙ (map-append verdict (judged_from by.circuit by.shape by.claims [] earlier) (judged_from by.circuit by.shape by.claims earlier records)
+    ∙ ap (λ (l : List Verdict). verdicts_of by.circuit by.shape by.claims earlier ++ l) (sym (verdicts-marked by earlier records)))
+
+-- and what is known behind all of them
+pub knows-more : (claims earlier records : List (List ℕ)) → known_after claims (earlier ++ records) ≡ with_nonces (known_after claims earlier) (map nonce_in records)
+knows-more claims earlier records =
+    ap (with_nonces claims) (map-append nonce_in earlier records) ∙ fold-append with_nonce claims (map nonce_in earlier) (map nonce_in records)
 
 module _ (by : Setting) (single : by.shape.buckets ≡ 1) (unwritten : by.shape.version ≢ 2) where
   -- with one bucket a record's row is its outs
