@@ -17,7 +17,7 @@ use Rattle.flp_policy.specs.declared.verdict.Verdict.TheVariants.{Replayed}
 use Rattle.flp_policy.specs.Verdicts.{is_accepted}
 use Rattle.flp_worker.specs.Verdict.{verdict_of, outs_in}
 use Rattle.flp_batch.specs.Setting.{Setting}
-use Rattle.flp_verdict.specs.Verdicts.{Judged, judged_after, judged_from, verdict_after, verdicts_of}
+use Rattle.flp_verdict.specs.Verdicts.{Judged, judged_from, verdict_after}
 use Rattle.flp_verdict.specs.Laws.{report_at, verdict_at}
 use Rattle.flp_verdict.specs.Release.{known_after}
 use Rattle.flp_verdict.proofs.PlaceLemmas.{at-place}
@@ -27,15 +27,13 @@ use Rattle.flp_verify.specs.Rows.{row_for, row_in}
 
 -- ---- one record more
 
--- the nonces of some records and of one more
-pub with_nonces-more : (known records : List (List ℕ)) (report : List ℕ)
-    → with_nonces known (map nonce_in (records ++ report ∷ [])) ≡ with_nonce (with_nonces known (map nonce_in records)) (nonce_in report)
-with_nonces-more known records report =
-    ap (with_nonces known) (map-append nonce_in records (report ∷ []))
-    ∙ fold-append with_nonce known (map nonce_in records) (nonce_in report ∷ [])
+-- what is known behind some records and more of them
+pub knows-more : (claims earlier records : List (List ℕ)) → known_after claims (earlier ++ records) ≡ with_nonces (known_after claims earlier) (map nonce_in records)
+knows-more claims earlier records =
+    ap (with_nonces claims) (map-append nonce_in earlier records) ∙ fold-append with_nonce claims (map nonce_in earlier) (map nonce_in records)
 
--- and their marks
-pub marks_behind-more : (known records : List (List ℕ)) (report : List ℕ)
+-- the marks of some records and of one more
+marks_behind-more : (known records : List (List ℕ)) (report : List ℕ)
     → marks_behind known (records ++ report ∷ [])
     ≡ marks_behind known records ++ is_among (with_nonces known (map nonce_in records)) (nonce_in report) ∷ []
 marks_behind-more known [] report = refl
@@ -43,7 +41,7 @@ marks_behind-more known (first ∷ records) report =
     ap (λ (marks : List Bool). is_among known (nonce_in first) ∷ marks) (marks_behind-more (with_nonce known (nonce_in first)) records report)
 
 -- the records up to one, and that one
-pub take-records : (records : List (List ℕ)) (index : ℕ) (report : List ℕ) → slice_get records index ≡ Some report
+take-records : (records : List (List ℕ)) (index : ℕ) (report : List ℕ) → slice_get records index ≡ Some report
     → take (index + 1) records ≡ take index records ++ report ∷ []
 take-records records index report is =
     let next : index + 1 ≡ suc index = omega arith in
@@ -74,7 +72,7 @@ known-more first known more records index report nonce at is more_is known_is =
     let earlier : List (List ℕ) = take index records in
     more_is
     ∙ (ap₂ with_nonce known_is is
-    ∙ (sym (with_nonces-more first earlier report)
+    ∙ (sym (knows-more first earlier (report ∷ []))
     ∙ ap (λ (l : List (List ℕ)). with_nonces first (map nonce_in l)) (sym (take-records records index report at))))
 
 -- ---- what the marks say
@@ -88,35 +86,7 @@ verdicts-marked by earlier (report ∷ records) =
     let rest : List (List ℕ) → List Verdict = λ known. verdicts_by by.circuit by.shape (marks_behind known records) records in
     ap₂ (λ (b : Bool) (l : List Verdict). (if b then Replayed else verdict_of by.circuit by.shape report) ∷ l)
     (is_among-with_nonces by.claims (map nonce_in earlier) (nonce_in report))
-    (ap rest (sym (with_nonces-more by.claims earlier report)) ∙ verdicts-marked by (earlier ++ report ∷ []) records)
-
--- the records are judged one list after the other
-judged_from-append : (by : Setting) (earlier first more : List (List ℕ))
-    → judged_from by.circuit by.shape by.claims earlier (first ++ more)
-    ≡ judged_from by.circuit by.shape by.claims earlier first ++ judged_from by.circuit by.shape by.claims (earlier ++ first) more
-judged_from-append by earlier [] more = ap (λ (l : List (List ℕ)). judged_from by.circuit by.shape by.claims l more) (sym (append-nil earlier))
-judged_from-append by earlier (report ∷ first) more =
-    ap (λ (l : List Judged). judged_after by.circuit by.shape by.claims earlier report ∷ l)
-    (judged_from-append by (earlier ++ report ∷ []) first more
-    ∙ ap
-    (λ (l : List (List ℕ)). judged_from by.circuit by.shape by.claims (earlier ++ report ∷ []) first ++ judged_from by.circuit by.shape by.claims l more)
-    (append_assoc earlier (report ∷ []) first))
-
--- so they are the verdicts of the batch behind those of the earlier records
-pub verdicts-more : (by : Setting) (earlier records : List (List ℕ))
-    → verdicts_of by.circuit by.shape by.claims (earlier ++ records)
-    ≡ verdicts_of by.circuit by.shape by.claims earlier
-    ++ verdicts_by by.circuit by.shape (marks_behind (with_nonces by.claims (map nonce_in earlier)) records) records
-verdicts-more by earlier records =
-    let verdict : Judged → Verdict = λ j. j.verdict in
-    ap (map verdict) (judged_from-append by [] earlier records)
-    ∙ (map-append verdict (judged_from by.circuit by.shape by.claims [] earlier) (judged_from by.circuit by.shape by.claims earlier records)
-    ∙ ap (λ (l : List Verdict). verdicts_of by.circuit by.shape by.claims earlier ++ l) (sym (verdicts-marked by earlier records)))
-
--- and what is known behind all of them
-pub knows-more : (claims earlier records : List (List ℕ)) → known_after claims (earlier ++ records) ≡ with_nonces (known_after claims earlier) (map nonce_in records)
-knows-more claims earlier records =
-    ap (with_nonces claims) (map-append nonce_in earlier records) ∙ fold-append with_nonce claims (map nonce_in earlier) (map nonce_in records)
+    (ap rest (sym (knows-more by.claims earlier (report ∷ []))) ∙ verdicts-marked by (earlier ++ report ∷ []) records)
 
 module _ (by : Setting) (single : by.shape.buckets ≡ 1) (unwritten : by.shape.version ≢ 2) where
   -- with one bucket a record's row is its outs
@@ -145,7 +115,7 @@ module _ (by : Setting) (single : by.shape.buckets ≡ 1) (unwritten : by.shape.
   rows-at earlier (report ∷ records) (suc i) below =
       let less : i < length records = omega arith in
       let next : List (List ℕ) = earlier ++ report ∷ [] in
-      ap (λ (known : List (List ℕ)). get_or (rows_by by.circuit by.shape (marks_behind known records) records) i None) (sym (with_nonces-more by.claims earlier report))
+      ap (λ (known : List (List ℕ)). get_or (rows_by by.circuit by.shape (marks_behind known records) records) i None) (sym (knows-more by.claims earlier (report ∷ [])))
       ∙ (rows-at next records i less
       ∙ ap (λ (l : List (List ℕ)). row_for (verdict_after by.circuit by.shape by.claims l (get_or records i [])) (outs_in by.circuit by.shape (get_or records i [])))
       (append_assoc earlier (report ∷ []) (take i records)))
