@@ -1,5 +1,5 @@
 -- Which records are replayed: one record more, and what the marks say of a batch.
-use Rattle.std.proofs.Common.{◌≡◌, ◌≢◌, ℕ, zero, suc, ◌+◌, ◌-◌, ◌*◌, ◌==◌, ◌<◌, ◌≤◌, List, [], ◌∷◌, ◌++◌, length, map, get_or, take, set, replicate, Bool, true, false, not, Option, Some, None, refl, sym, ap, ap₂, ◌∙◌, arith, length-append, append_assoc, append-nil}
+use Rattle.std.proofs.Common.{◌≡◌, ◌≢◌, ℕ, zero, suc, ◌+◌, ◌-◌, ◌*◌, ◌<◌, ◌≤◌, List, [], ◌∷◌, ◌++◌, length, map, get_or, take, set, replicate, Bool, not, Some, None, refl, sym, ap, ap₂, ◌∙◌, arith, length-append, append_assoc, append-nil}
 use Rattle.std.specs.Prelude.{slice_get, if◌then◌else◌}
 use Rattle.std.proofs.lemmas.Bool.{ne_eqb}
 use Rattle.std.proofs.lemmas.List.{map-append, take_more_set}
@@ -19,6 +19,7 @@ use Rattle.flp_worker.specs.Verdict.{verdict_of, outs_in}
 use Rattle.flp_batch.specs.Setting.{Setting}
 use Rattle.flp_verdict.specs.Verdicts.{Judged, judged_from, verdict_after}
 use Rattle.flp_verdict.specs.Laws.{report_at, verdict_at}
+use Rattle.flp_verdict.specs.Release.{known_after}
 use Rattle.flp_verdict.proofs.PlaceLemmas.{at-place}
 use Rattle.flp_round.specs.Findings.{verdicts_by, rows_by, row_with, outs_row, row_on, row_from}
 use Rattle.flp_verify.specs.Marks.{marks_behind}
@@ -26,15 +27,13 @@ use Rattle.flp_verify.specs.Rows.{row_for, row_in}
 
 -- ---- one record more
 
--- the nonces of some records and of one more
-pub with_nonces-more : (known records : List (List ℕ)) (report : List ℕ)
-    → with_nonces known (map nonce_in (records ++ report ∷ [])) ≡ with_nonce (with_nonces known (map nonce_in records)) (nonce_in report)
-with_nonces-more known records report =
-    ap (with_nonces known) (map-append nonce_in records (report ∷ []))
-    ∙ fold-append with_nonce known (map nonce_in records) (nonce_in report ∷ [])
+-- what is known behind some records and more of them
+pub knows-more : (claims earlier records : List (List ℕ)) → known_after claims (earlier ++ records) ≡ with_nonces (known_after claims earlier) (map nonce_in records)
+knows-more claims earlier records =
+    ap (with_nonces claims) (map-append nonce_in earlier records) ∙ fold-append with_nonce claims (map nonce_in earlier) (map nonce_in records)
 
--- and their marks
-pub marks_behind-more : (known records : List (List ℕ)) (report : List ℕ)
+-- the marks of some records and of one more
+marks_behind-more : (known records : List (List ℕ)) (report : List ℕ)
     → marks_behind known (records ++ report ∷ [])
     ≡ marks_behind known records ++ is_among (with_nonces known (map nonce_in records)) (nonce_in report) ∷ []
 marks_behind-more known [] report = refl
@@ -42,7 +41,7 @@ marks_behind-more known (first ∷ records) report =
     ap (λ (marks : List Bool). is_among known (nonce_in first) ∷ marks) (marks_behind-more (with_nonce known (nonce_in first)) records report)
 
 -- the records up to one, and that one
-pub take-records : (records : List (List ℕ)) (index : ℕ) (report : List ℕ) → slice_get records index ≡ Some report
+take-records : (records : List (List ℕ)) (index : ℕ) (report : List ℕ) → slice_get records index ≡ Some report
     → take (index + 1) records ≡ take index records ++ report ∷ []
 take-records records index report is =
     let next : index + 1 ≡ suc index = omega arith in
@@ -73,7 +72,7 @@ known-more first known more records index report nonce at is more_is known_is =
     let earlier : List (List ℕ) = take index records in
     more_is
     ∙ (ap₂ with_nonce known_is is
-    ∙ (sym (with_nonces-more first earlier report)
+    ∙ (sym (knows-more first earlier (report ∷ []))
     ∙ ap (λ (l : List (List ℕ)). with_nonces first (map nonce_in l)) (sym (take-records records index report at))))
 
 -- ---- what the marks say
@@ -87,7 +86,7 @@ verdicts-marked by earlier (report ∷ records) =
     let rest : List (List ℕ) → List Verdict = λ known. verdicts_by by.circuit by.shape (marks_behind known records) records in
     ap₂ (λ (b : Bool) (l : List Verdict). (if b then Replayed else verdict_of by.circuit by.shape report) ∷ l)
     (is_among-with_nonces by.claims (map nonce_in earlier) (nonce_in report))
-    (ap rest (sym (with_nonces-more by.claims earlier report)) ∙ verdicts-marked by (earlier ++ report ∷ []) records)
+    (ap rest (sym (knows-more by.claims earlier (report ∷ []))) ∙ verdicts-marked by (earlier ++ report ∷ []) records)
 
 module _ (by : Setting) (single : by.shape.buckets ≡ 1) (unwritten : by.shape.version ≢ 2) where
   -- with one bucket a record's row is its outs
@@ -116,7 +115,7 @@ module _ (by : Setting) (single : by.shape.buckets ≡ 1) (unwritten : by.shape.
   rows-at earlier (report ∷ records) (suc i) below =
       let less : i < length records = omega arith in
       let next : List (List ℕ) = earlier ++ report ∷ [] in
-      ap (λ (known : List (List ℕ)). get_or (rows_by by.circuit by.shape (marks_behind known records) records) i None) (sym (with_nonces-more by.claims earlier report))
+      ap (λ (known : List (List ℕ)). get_or (rows_by by.circuit by.shape (marks_behind known records) records) i None) (sym (knows-more by.claims earlier (report ∷ [])))
       ∙ (rows-at next records i less
       ∙ ap (λ (l : List (List ℕ)). row_for (verdict_after by.circuit by.shape by.claims l (get_or records i [])) (outs_in by.circuit by.shape (get_or records i [])))
       (append_assoc earlier (report ∷ []) (take i records)))
