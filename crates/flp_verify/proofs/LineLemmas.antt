@@ -1,13 +1,15 @@
 -- Records beside their verdicts, and the lines of these.
-use Rattle.std.proofs.Common.{◌≡◌, ℕ, zero, suc, ◌+◌, ◌<◌, ◌≤◌, List, [], ◌∷◌, ◌++◌, length, map, get_or, Option, Some, None, refl, sym, ap, ap₂, ◌∙◌, subst, arith}
+use Rattle.std.proofs.Common.{◌≡◌, ℕ, zero, suc, ◌≤◌, List, [], ◌∷◌, ◌++◌, length, map, Option, Some, refl, sym, ap, ap₂, ◌∙◌, subst, arith}
 use Rattle.std.specs.Prelude.{slice_get, Result, Ok, Err, OnOk}
 use Rattle.std.specs.Io.KnownBytes.{Appends}
 use Rattle.flp_io.specs.Block.{Passes}
 use Rattle.flp_io.specs.Writes.{TakesPrefix}
 use Rattle.flp_io.proofs.BlockLemmas.{Passes-flushed}
 use Rattle.flp_io.proofs.WriteLemmas.{TakesPrefix-after}
+use Rattle.flp_syntax.specs.Tree.{Program}
+use Rattle.flp_report.specs.declared.shape.Shape.{Shape}
 use Rattle.flp_policy.specs.declared.verdict.Verdict.{Verdict}
-use Rattle.flp_verdict.specs.Verdicts.{Judged}
+use Rattle.flp_verdict.specs.Verdicts.{Judged, judged_after, judged_from}
 use Rattle.flp_verify.specs.Told.{beside}
 
 -- judged records are their records beside their verdicts
@@ -18,6 +20,13 @@ beside-judged (j ∷ js) = ap (λ (l : List Judged). j ∷ l) (beside-judged js)
 -- records and verdicts that are those of judged records, beside each other
 pub beside-is : (js : List Judged) (reports : List (List ℕ)) (verdicts : List Verdict) → map (λ (j : Judged). j.report) js ≡ reports → map (λ (j : Judged). j.verdict) js ≡ verdicts → beside reports verdicts ≡ js
 beside-is js reports verdicts rs vs = ap₂ beside (sym rs) (sym vs) ∙ beside-judged js
+
+-- and the verdicts of a batch are, behind earlier records, beside its records
+pub beside-from : (program : Program) (shape : Shape) (claims earlier reports : List (List ℕ))
+    → beside reports (map (λ (j : Judged). j.verdict) (judged_from program shape claims earlier reports)) ≡ judged_from program shape claims earlier reports
+beside-from program shape claims earlier [] = refl
+beside-from program shape claims earlier (report ∷ reports) =
+    ap (λ (l : List Judged). judged_after program shape claims earlier report ∷ l) (beside-from program shape claims (earlier ++ report ∷ []) reports)
 
 -- there are at most as many as there are verdicts
 pub length-beside : (reports : List (List ℕ)) (verdicts : List Verdict) → length (beside reports verdicts) ≤ length verdicts

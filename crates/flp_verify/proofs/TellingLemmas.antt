@@ -1,5 +1,5 @@
 -- Verdicts that are told one after another: counts, and what policies answer afterwards.
-use Rattle.std.proofs.Common.{◌≡◌, ℕ, ◌+◌, ◌<◌, ◌≤◌, List, [], ◌∷◌, ◌++◌, length, take, get_or, map, Bool, not, Option, Some, refl, sym, ap, ap₂, ◌∙◌, subst, arith, append_assoc}
+use Rattle.std.proofs.Common.{◌≡◌, ℕ, ◌+◌, ◌<◌, ◌≤◌, List, [], ◌∷◌, ◌++◌, length, take, Bool, not, Some, refl, sym, ap, subst, ap₂, ◌∙◌, arith, append_assoc}
 use Rattle.std.specs.Prelude.{nat_le, position, slice_get}
 use Rattle.std.proofs.lemmas.List.{take_more, take_all}
 use Rattle.std.proofs.lemmas.Option.{slice_get_within, get_or_from_slice_get}
@@ -69,26 +69,37 @@ module _ (vs : List Verdict) where
       ∙ (sym (counts_of-last (seen ++ take i vs) v)
       ∙ ap counts_of (append_assoc seen (take i vs) (v ∷ []) ∙ ap (λ (l : List Verdict). seen ++ l) (sym (first-more i v is)))))
 
-  pub told_in-more : (bucket i : ℕ) (v : Verdict) (of : ℕ) (n : VerdictCounts) → slice_get vs i ≡ Some v → told_in bucket (take i vs) of (one_more_in bucket v of n) ≡ told_in bucket (take (i + 1) vs) of n
-  told_in-more bucket i v of n is =
-      sym (ap (λ (l : List Verdict). told_in bucket l of n) (first-more i v is) ∙ told_in-append bucket (take i vs) (v ∷ []) of n)
+  pub told-more : {B : Type 0} {bucket : ℕ} {old mid new : VerdictCounts → ℕ → B} (i : ℕ) (v : Verdict) → slice_get vs i ≡ Some v → AreTold bucket (take i vs) old mid
+      → ((more : VerdictCounts) (of : ℕ) → new more of ≡ mid (one_more_in bucket v of more) of) → AreTold bucket (take (i + 1) vs) old new
+  told-more {bucket = bucket} {old = old} i v is so one =
+      record {
+        answers = λ more of. one more of ∙ (so.answers (one_more_in bucket v of more) of
+            ∙ ap (λ (n : VerdictCounts). old n of) (sym (ap (λ (l : List Verdict). told_in bucket l of more) (first-more i v is) ∙ told_in-append bucket (take i vs) (v ∷ []) of more)));
+      }
+
+  -- all of them
+  pub told-all : {B : Type 0} {bucket : ℕ} {old new : VerdictCounts → ℕ → B} (i : ℕ) → length vs ≤ i → AreTold bucket (take i vs) old new → AreTold bucket vs old new
+  told-all {bucket = bucket} {old = old} {new = new} i all so = subst (λ (l : List Verdict). AreTold bucket l old new) (take_all i vs all) so
 
 -- ---- what is told and then asked
 
+-- no verdict was told
+pub told-none : {B : Type 0} {bucket : ℕ} {old : VerdictCounts → ℕ → B} → AreTold bucket [] old old
+told-none = record { answers = λ more of. refl }
+
 -- some were told and then others: both were told
-pub AreTold-append : {B : Type 0} (bucket : ℕ) (xs ys : List Verdict) (old mid new : VerdictCounts → ℕ → B) → AreTold bucket xs old mid → AreTold bucket ys mid new → AreTold bucket (xs ++ ys) old new
-AreTold-append bucket xs ys old mid new p q = λ more of.
-    q more of ∙ (p (told_in bucket ys of more) of ∙ ap (λ (n : VerdictCounts). old n of) (sym (told_in-append bucket xs ys of more)))
+pub told-after : {B : Type 0} {bucket : ℕ} {xs ys : List Verdict} {old mid new : VerdictCounts → ℕ → B} → AreTold bucket xs old mid → AreTold bucket ys mid new → AreTold bucket (xs ++ ys) old new
+told-after {bucket = bucket} {xs = xs} {ys = ys} {old = old} p q =
+    record { answers = λ more of. q.answers more of ∙ (p.answers (told_in bucket ys of more) of ∙ ap (λ (n : VerdictCounts). old n of) (sym (told_in-append bucket xs ys of more))) }
 
 -- after all verdicts were told, no more are needed for the answer
-pub AreTold-asked : {B : Type 0} (vs : List Verdict) (old new : VerdictCounts → ℕ → B) → AreTold 0 vs old new → new no_more 0 ≡ old (counts_of vs) 0
-AreTold-asked vs old new p = p no_more 0 ∙ ap (λ (n : VerdictCounts). old n 0) (told_in-counts vs)
+pub told-asked : {B : Type 0} {vs : List Verdict} {old new : VerdictCounts → ℕ → B} → AreTold 0 vs old new → new no_more 0 ≡ old (counts_of vs) 0
+told-asked {vs = vs} {old = old} p = p.answers no_more 0 ∙ ap (λ (n : VerdictCounts). old n 0) (told_in-counts vs)
 
 -- a floor that was new, and policies: the first of them that does not allow the release, after they were told all verdicts
-pub floor-asked : (least : ℕ) (vs : List Verdict) (fresh floor : VerdictCounts → ℕ → Bool) (would asked : Answers)
+pub floor-asked : {vs : List Verdict} {fresh floor : VerdictCounts → ℕ → Bool} {would asked : Answers} (least : ℕ)
     → ((more : VerdictCounts) (of : ℕ) → of < 256 → fresh more of ≡ nat_le least more.accepted)
     → AreTold 0 vs fresh floor → AreTold 0 vs would asked
     → position not (floor no_more 0 ∷ asked no_more 0) ≡ refusal least would (counts_of vs) 0
-floor-asked least vs fresh floor would asked new p q =
-    let first : floor no_more 0 ≡ nat_le least (counts_of vs).accepted = AreTold-asked vs fresh floor p ∙ new (counts_of vs) 0 (omega arith) in
-    ap₂ (λ (b : Bool) (bs : List Bool). position not (b ∷ bs)) first (AreTold-asked vs would asked q)
+floor-asked {vs = vs} least new p q =
+    ap₂ (λ (b : Bool) (bs : List Bool). position not (b ∷ bs)) (told-asked p ∙ new (counts_of vs) 0 (omega arith)) (told-asked q)

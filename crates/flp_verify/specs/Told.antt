@@ -10,8 +10,8 @@ told_in bucket [] of n = n
 told_in bucket (v ∷ vs) of n = one_more_in bucket v of (told_in bucket vs of n)
 
 -- what is answered of a bucket after so many more verdicts of each kind there, before and after these verdicts were told
-abbrev pub AreTold : {B : Type 0} (bucket : ℕ) → List Verdict → (old new : VerdictCounts → ℕ → B) → Type 0
-AreTold bucket verdicts old new = (more : VerdictCounts) (of : ℕ) → new more of ≡ old (told_in bucket verdicts of more) of
+pub record AreTold {B : Type 0} (bucket : ℕ) (verdicts : List Verdict) (old new : VerdictCounts → ℕ → B) : Type 0 where
+  pub answers : (more : VerdictCounts) (of : ℕ) → new more of ≡ old (told_in bucket verdicts of more) of
 
 -- each record beside its verdict
 abbrev pub beside : (reports : List (List ℕ)) → List Verdict → List Judged

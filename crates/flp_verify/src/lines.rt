@@ -1,5 +1,5 @@
 //! The lines of the records, each put through a block.
-ghost use Rattle.std.specs.Prelude.{◌≡◌, ◌++◌, ℕ, [], length, decimal, codes, OnOk, IsErr, IsOk};
+ghost use Rattle.std.specs.Prelude.{◌≡◌, ◌++◌, [], length, decimal, codes, OnOk, IsErr, IsOk};
 ghost use Rattle.std.specs.Io.KnownBytes.{Appends};
 ghost use Rattle.flp_io.specs.Faults.{Uses};
 ghost use Rattle.flp_io.specs.Writes.{TakesPrefix};

@@ -1,4 +1,3 @@
-use Rattle.std.proofs.Common.{◌++◌, refl}
 use Rattle.flp_report.specs.Segment.{records_in}
 use Rattle.flp_round.specs.Crew.{verdicts_of}
 use Rattle.flp_verdict.specs.Text.{judged_lines}

@@ -1,4 +1,4 @@
-use Rattle.std.proofs.Common.{◌≡◌, ◌+◌, ◌++◌, List, map, take, get_or, ℕ}
+use Rattle.std.proofs.Common.{◌≡◌, ◌+◌, ◌++◌, List, map, take, get_or}
 use Rattle.std.specs.Prelude.{nat_le}
 use Rattle.flp_policy.specs.Counts.{counts_of}
 use Rattle.flp_policy.specs.declared.verdict.Verdict.{Verdict}
