@@ -3,7 +3,6 @@ use Rattle.std.proofs.Common.{◌≡◌, ◌≢◌, ℕ, suc, ◌+◌, Option, N
 use Rattle.std.specs.Prelude.{IfSome}
 use Rattle.std.specs.Io.KnownBytes.{Appends}
 use Rattle.std.proofs.lemmas.List.{map-append}
-use Rattle.std.proofs.lemmas.List.Sums.{fold-append}
 use Rattle.flp_io.specs.Writes.{TakesPrefix}
 use Rattle.flp_syntax.specs.Tree.{Program}
 use Rattle.flp_report.specs.declared.shape.Shape.{Shape}
@@ -29,7 +28,7 @@ use Rattle.flp_verify.specs.Settled.{IsRoomFor, IsBoardFor, IsBetween, seen_by, 
 use Rattle.flp_verify.specs.Text.{verdict_line}
 use Rattle.flp_verify.specs.Told.{AreTold, beside}
 use Rattle.flp_verify.proofs.LineLemmas.{beside-is}
-use Rattle.flp_verify.proofs.MarkLemmas.{verdicts-marked}
+use Rattle.flp_verify.proofs.MarkLemmas.{knows-more, verdicts-marked}
 use Rattle.flp_verify.proofs.RunLemmas.{takes-more}
 use Rattle.flp_verify.proofs.TellingLemmas.{AreTold-append}
 use Rattle.flp_verify.proofs.TextLemmas.{lines_from-judged}
@@ -68,10 +67,6 @@ found-lines front start known earlier records is =
     ap judged_lines (beside-is js records (found_behind front known records) (reports-judged front.loaded.plan.circuit front.shape start.known earlier records) (sym (found-judged front start known earlier records is)))
     ∙ sym (lines_from-judged (setting_with front start.known) earlier records)
 
--- the nonces of records, and then of more of them
-known-joined : (claims earlier records : List (List ℕ)) → with_nonces (known_after claims earlier) (map nonce_in records) ≡ known_after claims (earlier ++ records)
-known-joined claims earlier records = sym (ap (with_nonces claims) (map-append nonce_in earlier records) ∙ fold-append with_nonce claims (map nonce_in earlier) (map nonce_in records))
-
 -- ---- what is kept
 
 -- in front of the first record
@@ -95,7 +90,7 @@ behind-more join front start old new earlier records single other p step =
     ap (λ (l : List Verdict). verdicts_from front start earlier ++ l) found ∙ sym (verdicts-joined front start earlier records) in
     let rows = subst (λ (k : List (List ℕ)). TakesRange (found_row front k records (length earlier)) (length earlier) (length earlier + length records) old.view new.view) p.known step.view in
     record {
-      known = step.known ∙ (ap (λ (k : List (List ℕ)). with_nonces k (map nonce_in records)) p.known ∙ known-joined start.known earlier records);
+      known = step.known ∙ (ap (λ (k : List (List ℕ)). with_nonces k (map nonce_in records)) p.known ∙ sym (knows-more start.known earlier records));
       counts = step.counts (verdicts_from front start earlier) p.counts ∙ ap counts_of whole;
       floor = subst (λ (l : List Verdict). AreTold 0 l start.floor new.floor) whole (AreTold-append 0 (verdicts_from front start earlier) vs start.floor old.floor new.floor p.floor step.floor);
       answers = subst (λ (l : List Verdict). AreTold 0 l start.answers new.answers) whole (AreTold-append 0 (verdicts_from front start earlier) vs start.answers old.answers new.answers p.answers step.answers);

@@ -1,5 +1,5 @@
 //! The end of a batch: its sums are closed, and what follows the lines of its records is written.
-ghost use Rattle.std.specs.Prelude.{◌≡◌, ◌⊎◌, Err, IfOk, IfErr, OnOk, IsErr, IsOk, [], length};
+ghost use Rattle.std.specs.Prelude.{◌≡◌, ◌≢◌, ◌⊎◌, Err, IfOk, IfErr, OnOk, IsErr, IsOk, [], length};
 ghost use Rattle.std.specs.Io.KnownBytes.{Appends};
 ghost use Rattle.flp_io.specs.Faults.{Uses};
 ghost use Rattle.flp_io.specs.Writes.{TakesPrefix};
@@ -7,7 +7,7 @@ ghost use Rattle.flp_known.specs.Known.{known_in};
 ghost use Rattle.flp_tally.specs.Held.{IsSeatOf};
 ghost use Rattle.flp_tally.specs.Rows.{AreSums};
 ghost use Rattle.flp_verdict.specs.Release.{ending_by};
-ghost use Rattle.flp_verify.specs.Counted.{withheld_by, totals_of, ending_of, IsSummary};
+ghost use Rattle.flp_verify.specs.Counted.{withheld_by, totals_of, totals_in, ending_of, IsSummary};
 
 use crate::EngineFault;
 use crate::counted::{Counted, End, Summary};
@@ -34,6 +34,7 @@ pub fn finish<K: Sink>(
     requires ready { K.ready output.old }
     ensures summary { IfOk result (λ summary. IsSummary counted summary) }
     ensures written { OnOk result (Appends (K.taken output.old) (K.taken output.new) (ending_of counted claims)) }
+    ensures sums { result ≢ Err EngineFault.Memory → AreSums counted.seat.view.added (totals_in counted) }
     ensures front { TakesPrefix (K.taken output.old) (K.taken output.new) (ending_of counted claims) }
     ensures kept { result ≡ Err EngineFault.Memory → output.new ≡ output.old }
     ensures faults { IfErr result (λ fault. (fault ≡ EngineFault.Memory) ⊎ (fault ≡ EngineFault.Write)) }

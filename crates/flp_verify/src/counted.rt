@@ -17,8 +17,8 @@ pub enum End {
     Withheld(u32),
 }
 
-/// A batch that was verified: how many places have each verdict, the nonces that are known behind it, in rising order,
-/// whether its aggregate is released, and the tally with all its rows.
+/// A batch that was verified: how many places have each verdict, the nonces that are known behind it, whether its
+/// aggregate is released, and the tally with all its rows.
 ///
 /// The seat is one of the tally with the full weight, and the tally has as many elements as the circuit has outs.
 #[derive(Drop)]

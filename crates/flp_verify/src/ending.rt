@@ -1,42 +1,15 @@
 //! What follows the lines of the records, line by line through a block.
-ghost use Rattle.std.specs.Prelude.{◌≡◌, ◌++◌, length, decimal, codes};
+ghost use Rattle.std.specs.Prelude.{◌++◌, decimal, codes};
 ghost use Rattle.flp_known.specs.Known.{known_in};
+ghost use Rattle.flp_known.specs.Puts.{Puts};
 ghost use Rattle.flp_verdict.specs.Text.{spaced};
-ghost use Rattle.flp_verdict.specs.Release.{release_line, claim_line, claim_lines, claims_out, ending_by};
+ghost use Rattle.flp_verdict.specs.Release.{release_line, claims_out, ending_by};
 ghost use Rattle.flp_verify.specs.Counted.{withheld_by};
-ghost use Rattle.flp_verify.specs.Puts.{Puts};
 
 use crate::counted::End;
 use flp_field::Fe;
 use flp_io::{Block, Failed, Sink};
-use flp_known::Known;
-
-/// Puts one piece.
-pub(crate) fn put_piece<K: Sink>(
-    block: &mut Block,
-    sink: &mut K,
-    piece: &[u8],
-) -> Result<(), Failed>
-    requires { K.ready sink.old }
-    ensures { Puts K.taken K.faults K.ready sink.old sink.new block.old block.new piece.now result }
-{
-    block.push(sink, piece)
-}
-
-/// Puts a line: what it tells, and what it says.
-fn put_line<K: Sink>(
-    block: &mut Block,
-    sink: &mut K,
-    name: &[u8],
-    said: &[u8],
-) -> Result<(), Failed>
-    requires { K.ready sink.old }
-    ensures { Puts K.taken K.faults K.ready sink.old sink.new block.old block.new (name.now ++ (said.now ++ codes "\n")) result }
-{
-    put_piece(block, sink, name)?;
-    put_piece(block, sink, said)?;
-    put_piece(block, sink, b"\n")
-}
+use flp_known::{Known, put_line, put_piece};
 
 /// Puts a line that says a number.
 fn put_number_line<K: Sink>(
@@ -115,25 +88,6 @@ fn put_release<K: Sink>(
     }
 }
 
-/// Puts the line of a claim, a nonce of 16 bytes.
-fn put_claim<K: Sink>(block: &mut Block, sink: &mut K, nonce: &[u8]) -> Result<(), Failed>
-    requires ready { K.ready sink.old }
-    requires nonce { length nonce.now ≡ 16 }
-    ensures { Puts K.taken K.faults K.ready sink.old sink.new block.old block.new (claim_line nonce.now) result }
-{
-    let mut digits = [0; 32];
-    hex::encode_to_slice(nonce, &mut digits).unwrap();
-    put_line(block, sink, b"claim ", &digits)
-}
-
-/// Puts the lines of claims.
-fn put_claims<K: Sink>(block: &mut Block, sink: &mut K, known: &Known) -> Result<(), Failed>
-    requires { K.ready sink.old }
-    ensures { Puts K.taken K.faults K.ready sink.old sink.new block.old block.new (claim_lines (known_in known.now)) result }
-{
-    put_piece(block, sink, b"")
-}
-
 /// Puts the lines of claims where they are asked for.
 fn put_claims_out<K: Sink>(
     block: &mut Block,
@@ -145,7 +99,7 @@ fn put_claims_out<K: Sink>(
     ensures { Puts K.taken K.faults K.ready sink.old sink.new block.old block.new (claims_out claims (known_in known.now)) result }
 {
     if claims {
-        put_claims(block, sink, known)
+        known.put_claims(block, sink)
     } else {
         put_piece(block, sink, b"")
     }

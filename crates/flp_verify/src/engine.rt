@@ -1,18 +1,16 @@
 //! The walk through the records of a batch, segment by segment.
-ghost use Rattle.std.specs.Prelude.{◌≡◌, ◌+◌, ◌<◌, ◌≤◌, ℕ, All, None, Err, OnOk, OnErr, IfErr, IsOk, length, map, take, nat_le, vec_len};
+ghost use Rattle.std.specs.Prelude.{◌≡◌, ◌+◌, ◌<◌, ◌≤◌, ℕ, All, None, Err, OnOk, OnErr, IfErr, IsOk, length, map, take, nat_le};
 ghost use Rattle.std.specs.Io.KnownBytes.{Appends, IsAtEnd};
 ghost use Rattle.flp_io.specs.Faults.{Uses};
 ghost use Rattle.flp_io.specs.Reads.{ConsumesAtMost};
 ghost use Rattle.flp_io.specs.Writes.{TakesPrefix};
 ghost use Rattle.flp_report.specs.Buckets.{HasBucket};
 ghost use Rattle.flp_report.specs.Nonces.{nonces_in};
-ghost use Rattle.flp_report.specs.Record.{nonce_in};
 ghost use Rattle.flp_report.specs.Reader.{source_of, SameLoan};
 ghost use Rattle.flp_report.specs.Segment.{shape_in, used_in, records_in};
 ghost use Rattle.flp_report.specs.Shape.{bytes_of};
 ghost use Rattle.flp_policy.specs.Counts.{VerdictCounts, no_more};
 ghost use Rattle.flp_known.specs.Known.{known_in};
-ghost use Rattle.flp_known.specs.Order.{with_nonces};
 ghost use Rattle.flp_pool.specs.Range.{LacksRange, TakesRange};
 ghost use Rattle.flp_round.specs.Crew.{workers_of, verdicts_of, IsCrewFor, room_of};
 ghost use Rattle.flp_round.specs.Findings.{verdicts_by, rows_by, row_from};
@@ -21,12 +19,10 @@ ghost use Rattle.flp_batch.specs.Fault.{IsOfInput};
 ghost use Rattle.flp_batch.specs.Front.{IsAtRecords};
 ghost use Rattle.flp_batch.specs.Opened.{IsRecordsFault, records_size};
 ghost use Rattle.flp_batch.specs.Walk.{Judges, Breaks};
-ghost use Rattle.flp_verify.specs.Marks.{marks_behind};
 ghost use Rattle.flp_verify.specs.Numbers.{counts_in};
 ghost use Rattle.flp_verify.specs.Settled.{IsRoomFor, IsBoardFor, IsBetween, IsBehind, Advances, standing, setting_with, opened_with, found_lines};
 ghost use Rattle.flp_verify.specs.Text.{verdict_line};
 
-use crate::Memory;
 use crate::board::Board;
 use crate::front::Front;
 use crate::lines::put_segment;
@@ -69,22 +65,6 @@ impl Ledger {
             board: None,
         }
     }
-}
-
-/// Marks which of the `count` records in a segment are replayed, in the first places of these marks.
-fn mark_within(
-    known: &mut Known,
-    segment: &Segment,
-    count: u32,
-    marks: &mut Vec<bool>,
-) -> Result<(), Memory>
-    requires used { used_in segment.now ≡ count }
-    requires places { count ≤ vec_len marks.old }
-    ensures size { vec_len marks.new ≡ vec_len marks.old }
-    ensures marked { OnOk result (take count marks.new.items ≡ marks_behind (known_in known.old) (records_in segment.now)) }
-    ensures known { OnOk result (known_in known.new ≡ with_nonces (known_in known.old) (map nonce_in (records_in segment.now))) }
-{
-    mark(known, segment, count, &mut marks[..count as usize])
 }
 
 /// Verifies the `count` records of a segment, the first of which has this place in the batch, on the tally. The first of the
@@ -152,7 +132,7 @@ fn pass_segment<R: Threads + Sync, K: Sink, G: Gate>(
     ensures cause { IfErr result (λ fault. IsOfInput fault → ⊥) }
     ensures sink { Uses K.faults K.ready output.old output.new (result ≡ Err EngineFault.Write) (IsOk result) }
 {
-    mark_within(&mut ledger.known, &room.segment, count, &mut room.marks)?;
+    mark(&mut ledger.known, &room.segment, count, &mut room.marks)?;
     let board = Board::there_or_new(alloc, ledger.board.take(), front)?;
     let board = verify_round(
         rt,

@@ -7,11 +7,12 @@ ghost use Rattle.flp_report.specs.Record.{record_of, nonce_in};
 ghost use Rattle.flp_report.specs.Segment.{used_in, records_in};
 ghost use Rattle.flp_round.specs.Crew.{verdicts_of};
 ghost use Rattle.flp_verdict.specs.Text.{spelled, line_head, line_with, judged_lines};
-ghost use Rattle.flp_verify.specs.Puts.{Puts};
+ghost use Rattle.flp_known.specs.Puts.{Puts};
 ghost use Rattle.flp_verify.specs.Told.{beside};
 
-use crate::ending::{put_number, put_piece, put_spaced_number};
+use crate::ending::{put_number, put_spaced_number};
 use flp_io::{Block, Failed, Sink};
+use flp_known::put_piece;
 use flp_policy::Verdict;
 use flp_report::{Record, Segment};
 use flp_round::Crew;

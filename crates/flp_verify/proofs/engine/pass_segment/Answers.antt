@@ -17,8 +17,8 @@ use Rattle.flp_verify.specs.Told.{AreTold}
 use Rattle.flp_verify.proofs.SettledLemmas.{length-found}
 use Rattle.flp_verify.proofs.engine.pass_segment.Goals as goal
 
-pub returns-in_err-mark_within-clause-front : goal.returns-in_err-mark_within-clause-front
-returns-in_err-mark_within-clause-front g c = OnErr-always c.from_residual.result (TakesPrefix-refl (g.K.Sink.taken c.args.output.now) _)
+pub returns-in_err-mark-clause-front : goal.returns-in_err-mark-clause-front
+returns-in_err-mark-clause-front g c = OnErr-always c.from_residual.result (TakesPrefix-refl (g.K.Sink.taken c.args.output.now) _)
 
 pub returns-in_err-board-clause-front : goal.returns-in_err-board-clause-front
 returns-in_err-board-clause-front g c = OnErr-always c.from_residual-in_err-board.result (TakesPrefix-refl (g.K.Sink.taken c.args.output.now) _)
@@ -33,8 +33,10 @@ tell_segment-requires-clause-count g c =
     let front = c.args.front.now in
     let records = records_in c.args.room.now.segment in
     let known = known_in c.args.ledger.now.known in
+    let lent : c.deref.result.now ≡ c.mark.new.marks = search rules in
+    let marked = ap (λ (l : List Bool). take c.args.count l) lent ∙ c.in_ok-mark.ensures.marked in
     let found : verdicts_of c.verify_round-board.new.crew ≡ found_behind front known records =
-    c.verify_round-board.ensures.verdicts ∙ ap (λ (m : List Bool). verdicts_by front.loaded.plan.circuit front.shape m records) c.in_ok-mark_within.ensures.marked in
+    c.verify_round-board.ensures.verdicts ∙ ap (λ (m : List Bool). verdicts_by front.loaded.plan.circuit front.shape m records) marked in
     sym (ap (λ (l : List Verdict). length l) found ∙ (length-found front known records ∙ ((IsCut-held c.args.room.now.segment).number ∙ c.requires.count.0)))
 
 pub put_segment-requires-clause-verdicts : goal.put_segment-requires-clause-verdicts
@@ -42,8 +44,10 @@ put_segment-requires-clause-verdicts g c =
     let front = c.args.front.now in
     let records = records_in c.args.room.now.segment in
     let known = known_in c.args.ledger.now.known in
+    let lent : c.deref.result.now ≡ c.mark.new.marks = search rules in
+    let marked = ap (λ (l : List Bool). take c.args.count l) lent ∙ c.in_ok-mark.ensures.marked in
     let found : verdicts_of c.verify_round-board.new.crew ≡ found_behind front known records =
-    c.verify_round-board.ensures.verdicts ∙ ap (λ (m : List Bool). verdicts_by front.loaded.plan.circuit front.shape m records) c.in_ok-mark_within.ensures.marked in
+    c.verify_round-board.ensures.verdicts ∙ ap (λ (m : List Bool). verdicts_by front.loaded.plan.circuit front.shape m records) marked in
     sym (ap (λ (l : List Verdict). length l) found ∙ (length-found front known records ∙ ((IsCut-held c.args.room.now.segment).number ∙ c.requires.count.0)))
 
 pub returns-in-Ok-clause-between : goal.returns-in-Ok-clause-between
@@ -54,7 +58,7 @@ returns-in-Ok-clause-between g c =
       room = record {
         shape = before.room.shape;
         records = before.room.records;
-        marks = c.in_ok-mark_within.ensures.size ∙ before.room.marks;
+        marks = search (rules, before.room.marks);
         crew = verified.crew.0;
         verdicts = verified.crew.1 ∙ before.room.verdicts;
         workers = verified.crew.2 ∙ before.room.workers;
@@ -75,14 +79,14 @@ returns-in-Ok-clause-advances g c =
     let told = c.tell_segment.ensures in
     let number : length records ≡ c.args.count = (IsCut-held c.args.room.now.segment).number ∙ c.requires.count.0 in
     let seen : c.in_ok-board.board.seat.view ≡ seen_by front old.board = search rules in
-    let marks = take c.args.count c.mark_within.new.marks.items in
-    let marked : marks ≡ marks_behind (known_in old.known) records = c.in_ok-mark_within.ensures.marked in
+    let lent : c.deref.result.now ≡ c.mark.new.marks = search rules in
+    let marked = ap (λ (l : List Bool). take c.args.count l) lent ∙ c.in_ok-mark.ensures.marked in
     let found : verdicts_of c.verify_round-board.new.crew ≡ found_behind front (known_in old.known) records =
     verified.verdicts ∙ ap (λ (m : List Bool). verdicts_by plan.circuit front.shape m records) marked in
     let P : ℕ → View → List Bool → Type 0 = λ n v m. TakesRange (row_from c.args.first (rows_by plan.circuit front.shape m records)) c.args.first (c.args.first + n) v c.verify_round-board.result.seat.view in
     let lets : List ℕ → VerdictCounts → ℕ → Bool = λ needed more of. nat_le (get_or needed of 0) more.accepted in
     record {
-      known = c.in_ok-mark_within.ensures.known;
+      known = c.in_ok-mark.ensures.known;
       counts = λ before is. told.counted before is ∙ ap (λ (l : List Verdict). counts_of (before ++ l)) found;
       floor = subst (λ (l : List Verdict). AreTold {B = Bool} 0 l (lets old.floor.needed) (lets c.tell_segment.new.floor.needed)) found told.floor;
       answers = subst (λ (l : List Verdict). AreTold {B = List Bool} 0 l (λ more of. map (λ p. (goal.Policy-dyn g (p.vtable, p.value)).would p.value more of) c.args.policies.now) (λ more of. map (λ p. (goal.Policy-dyn g (p.vtable, p.value)).would p.value more of) c.tell_segment.new.policies)) found told.policies;

@@ -1,7 +1,7 @@
 use Rattle.std.proofs.Common.{◌++◌, refl, codes}
 use Rattle.flp_report.specs.Record.{record_of, nonce_in}
 use Rattle.flp_verdict.specs.Text.{line_head, spelled}
-use Rattle.flp_verify.proofs.PutsLemmas.{Puts-after, Puts-short}
+use Rattle.flp_known.proofs.PutsLemmas.{Puts-after, Puts-short}
 use Rattle.flp_verify.proofs.lines.put_verdict_line.Goals as goal
 
 pub returns-in_err-put_nonce : goal.returns-in_err-put_nonce

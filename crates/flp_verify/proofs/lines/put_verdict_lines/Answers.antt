@@ -8,7 +8,7 @@ use Rattle.flp_verdict.specs.Verdicts.{Judged}
 use Rattle.flp_verdict.specs.Text.{line_of}
 use Rattle.flp_verify.specs.Told.{beside}
 use Rattle.flp_verify.proofs.LineLemmas.{beside-at, length-beside}
-use Rattle.flp_verify.proofs.PutsLemmas.{Puts-none, Puts-more, Puts-stop, Puts-all}
+use Rattle.flp_known.proofs.PutsLemmas.{Puts-none, Puts-more, Puts-stop, Puts-all}
 use Rattle.flp_verify.proofs.lines.put_verdict_lines.Goals as goal
 
 pub loop-index-init : goal.loop-index-init

@@ -3,7 +3,7 @@ use Rattle.flp_io.specs.declared.failed.Failed.{Failed}
 use Rattle.flp_report.specs.Segment.{records_in}
 use Rattle.flp_round.specs.Crew.{verdicts_of}
 use Rattle.flp_verdict.specs.Text.{judged_lines}
-use Rattle.flp_verify.specs.Puts.{Puts}
+use Rattle.flp_known.specs.Puts.{Puts}
 use Rattle.flp_verify.specs.Told.{beside}
 use Rattle.flp_verify.proofs.lines.put_verdict_lines.Given as goal
 

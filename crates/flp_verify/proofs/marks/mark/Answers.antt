@@ -1,4 +1,4 @@
-use Rattle.std.proofs.Common.{◌≤◌, ◌<◌, ◌∙◌, List, ℕ, length, map, sym, ap, arith}
+use Rattle.std.proofs.Common.{◌≡◌, ◌≤◌, ◌<◌, ◌∙◌, List, ℕ, length, map, take, ap, arith}
 use Rattle.std.proofs.lemmas.List.{take_all}
 use Rattle.flp_report.specs.Record.{nonce_in}
 use Rattle.flp_report.specs.Segment.{records_in}
@@ -26,8 +26,8 @@ returns-clause-marked c =
     let index = c.loop-index.index in
     let records = records_in c.args.segment.now in
     let all : length records ≤ index = omega (arith, (IsCut-held c.args.segment.now).number, c.requires.used) in
-    let full : length c.loop-index.marks ≤ index = omega (arith, c.requires.places, c.loop-index.auto.marks) in
-    sym (take_all index c.loop-index.marks full)
+    let last : c.args.count ≡ index = omega arith in
+    ap (λ (n : ℕ). take n c.loop-index.marks) last
     ∙ (c.loop-index.invariant.0 ∙ ap (marks_behind (known_in c.args.known.now)) (take_all index records all))
 
 pub returns-clause-known : goal.returns-clause-known
