@@ -16,3 +16,5 @@ pub mod LineLemmas
 pub mod RunLemmas
 -- what is kept behind one segment more
 pub mod SettledLemmas
+-- from all records to the whole batch
+pub mod WholeLemmas

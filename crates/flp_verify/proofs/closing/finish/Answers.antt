@@ -39,3 +39,13 @@ returns-clause-summary g c =
       totals = c.from_vec.ensures ∙ (c.close_into.ensures.totals ∙ ap (λ (n : ℕ). totals_of n counted.seat.view.added) counted.sized);
       sums = subst (λ (l : List ℕ). AreSums counted.seat.view.added l) (sym c.from_vec.ensures) c.close_into.ensures.sums;
     }
+
+pub returns-in-Err-clause-sums : goal.returns-in-Err-clause-sums
+returns-in-Err-clause-sums g c = λ other.
+    let counted = c.args.counted in
+    subst (λ (l : List ℕ). AreSums counted.seat.view.added l) (c.close_into.ensures.totals ∙ ap (λ (n : ℕ). totals_of n counted.seat.view.added) counted.sized) c.close_into.ensures.sums
+
+pub returns-clause-sums : goal.returns-clause-sums
+returns-clause-sums g c = λ other.
+    let counted = c.args.counted in
+    subst (λ (l : List ℕ). AreSums counted.seat.view.added l) (c.close_into.ensures.totals ∙ ap (λ (n : ℕ). totals_of n counted.seat.view.added) counted.sized) c.close_into.ensures.sums

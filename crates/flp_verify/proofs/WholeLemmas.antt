@@ -1,0 +1,167 @@
+-- From what is kept behind all records to what is known of the whole batch.
+use Rattle.std.proofs.Common.{◌≡◌, ℕ, List, ◌∷◌, ◌++◌, not, Option, None, Result, Ok, Err, refl, sym, ap, subst, ◌∙◌, arith}
+use Rattle.std.specs.Prelude.{position}
+use Rattle.std.specs.List.{concat}
+use Rattle.std.specs.Io.KnownBytes.{Appends, Keeps, IsAtEnd}
+use Rattle.std.proofs.KnownBytes.{Keeps-refl, Consumes-trans}
+use Rattle.flp_meaning.specs.Gadgets.{out_count}
+use Rattle.flp_report.specs.declared.nonces.Nonces.{Nonces}
+use Rattle.flp_report.specs.Nonces.{nonces_in}
+use Rattle.flp_report.specs.Shape.{bytes_of}
+use Rattle.flp_known.specs.Known.{known_in}
+use Rattle.flp_policy.specs.Counts.{no_more}
+use Rattle.flp_tally.specs.declared.view.View.{View}
+use Rattle.flp_pool.specs.Range.{TakesRange}
+use Rattle.flp_batch.specs.declared.fault.EngineFault.{EngineFault}
+use Rattle.flp_batch.specs.declared.fault.EngineFault.TheVariants.{Memory, Read, Write, Batch, Circuit}
+use Rattle.flp_batch.specs.declared.front.Opened.{Opened}
+use Rattle.flp_batch.specs.Ends.{Ends}
+use Rattle.flp_batch.specs.Lines.{Wording, lines_of}
+use Rattle.flp_batch.specs.Opened.{setting_of, Opens, IsRecordsFault}
+use Rattle.flp_batch.specs.Reply.{StopsEarly, SettlesEarly}
+use Rattle.flp_batch.specs.Setting.{Setting}
+use Rattle.flp_batch.specs.Walk.{Judges, Stops, Settles, Breaks}
+use Rattle.flp_batch.proofs.BatchLemmas.{whole-behind, StopsEarly-behind, SettlesEarly-behind}
+use Rattle.flp_batch.proofs.WalkLemmas.{Stops-all}
+use Rattle.flp_verdict.specs.Release.{Answers}
+use Rattle.flp_verify.specs.declared.counted.Counted.{Counted}
+use Rattle.flp_verify.specs.declared.front.Front.{Front}
+use Rattle.flp_verify.specs.Counted.{withheld_by}
+use Rattle.flp_verify.specs.Laws.{IsCounted}
+use Rattle.flp_verify.specs.Numbers.{counts_in}
+use Rattle.flp_verify.specs.Reply.{CountsRecords, Counts}
+use Rattle.flp_verify.specs.Rows.{row_in}
+use Rattle.flp_verify.specs.Settled.{Standing, IsStart, IsBehind, setting_with, opened_with, verdicts_from, seen_by}
+use Rattle.flp_verify.specs.Text.{verdicts_by, verdict_line, verdict_lines}
+use Rattle.flp_verify.specs.Told.{AreTold}
+use Rattle.flp_verify.proofs.RunLemmas.{seat-counted}
+use Rattle.flp_verify.proofs.TellingLemmas.{floor-asked}
+use Rattle.flp_verify.proofs.TextLemmas.{lines-judged}
+
+-- ---- what is known of the records
+
+-- what is kept behind all of them, and the first refusal
+pub IsCounted-behind : (front : Front) (least : ℕ) (start now : Standing) (records : List (List ℕ)) (counted : Counted) → IsStart front least start → IsBehind front start now records
+    → counts_in counted.numbers ≡ now.counts → known_in counted.known ≡ now.known → withheld_by counted.end ≡ position not (now.floor no_more 0 ∷ now.answers no_more 0)
+    → counted.outs ≡ out_count front.loaded.plan.circuit → counted.seat.view ≡ now.view → IsCounted (setting_with front start.known) least start.answers records counted
+IsCounted-behind front least start now records counted s p numbers known end outs view =
+    let by = setting_with front start.known in
+    let vs = verdicts_from front start records in
+    let taken = subst (λ (v : View). TakesRange (row_in by records) 0 _ (seen_by front None) v) (sym view) (subst (λ (v : View). TakesRange (row_in by records) 0 _ v now.view) s.view p.view) in
+    let seat = seat-counted by records front.workers front.header.reports front.shape.outs counted.seat.view taken in
+    record {
+      numbers = numbers ∙ p.counts;
+      known = known ∙ p.known;
+      end = end ∙ floor-asked least vs start.floor now.floor start.answers now.answers s.floor p.floor p.answers;
+      outs = outs;
+      once = seat.0;
+      rows = seat.1;
+    }
+
+-- the records that were read and verified up to the end of the input
+pub CountsRecords-made : (front : Front) (claims : Nonces) (least : ℕ) (start now : Standing) (counted : Counted) (left left' taken taken' : Option (List ℕ)) → start.known ≡ nonces_in claims
+    → Judges (bytes_of front.shape) front.header.reports (verdict_line (setting_with front start.known)) (IsBehind front start now) left left' taken taken' → IsAtEnd left'
+    → ((records : List (List ℕ)) → IsBehind front start now records → IsCounted (setting_with front start.known) least start.answers records counted)
+    → CountsRecords (opened_with front claims) least start.answers now.answers counted left left' taken taken'
+CountsRecords-made front claims least start now counted left left' taken taken' known all ended is =
+    let records = all.records in
+    let same : setting_with front start.known ≡ setting_of (opened_with front claims) = ap (setting_with front) known in
+    record {
+      records = records;
+      number = all.number;
+      sizes = all.sizes;
+      read = all.read;
+      ended = ended;
+      written = subst (λ (by : Setting). Appends taken taken' (verdict_lines by records)) same (subst (Appends taken taken') (lines-judged (setting_with front start.known) records) all.written);
+      counted_is = subst (λ (by : Setting). IsCounted by least start.answers records counted) same (is records all.follows_are);
+      told = subst (λ (by : Setting). AreTold 0 (verdicts_by by records) start.answers now.answers) same all.follows_are.answers;
+    }
+
+-- ---- the whole file
+
+pub Counts-behind : (o : Opened) (least : ℕ) (would asked : Answers) (counted : Counted) (first left left' taken taken' : Option (List ℕ)) → Opens None first left o
+    → CountsRecords o least would asked counted left left' taken taken' → Counts least would asked counted first left' taken taken'
+Counts-behind o least would asked counted first left left' taken taken' opens all =
+    let rest = concat all.records in
+    let is = whole-behind None o first left opens all.records all.number all.sizes in
+    record {
+      bytes = opens.front ++ rest;
+      params = o.loaded.params;
+      setting = setting_of o;
+      read = Consumes-trans first left left' opens.front rest opens.read all.read;
+      ended = all.ended;
+      is_batch = is.is_batch;
+      written = subst (λ (rs : List (List ℕ)). Appends taken taken' (verdict_lines (setting_of o) rs)) (sym is.whole) all.written;
+      counted_is = subst (λ (rs : List (List ℕ)). IsCounted (setting_of o) least would rs counted) (sym is.whole) all.counted_is;
+      told = subst (λ (rs : List (List ℕ)). AreTold 0 (verdicts_by (setting_of o) rs) would asked) (sym is.whole) all.told;
+    }
+
+-- the lines of a walk, which are all that it writes
+abbrev verdict_words : Setting → Wording
+verdict_words by = record { line = verdict_line by; text = verdict_lines by }
+
+pub stops-early : (o : Opened) (first left left' taken taken' : Option (List ℕ)) → Opens None first left o → Stops (bytes_of o.shape) o.header.reports (verdict_line (setting_of o)) left left' taken taken'
+    → StopsEarly None verdict_lines first left' taken taken'
+stops-early o first left left' taken taken' opens stops =
+    subst (λ (lines : Setting → List (List ℕ) → List ℕ). StopsEarly None lines first left' taken taken') (λ i by records. lines-judged by records i)
+    (StopsEarly-behind None o verdict_words first left left' taken taken' opens stops)
+
+pub settles-early : (o : Opened) (first left left' taken taken' : Option (List ℕ)) → Opens None first left o → Settles o.shape o.header.reports (verdict_line (setting_of o)) left left' taken taken'
+    → SettlesEarly None verdict_lines first left' taken taken'
+settles-early o first left left' taken taken' opens settles =
+    subst (λ (lines : Setting → List (List ℕ) → List ℕ). SettlesEarly None lines first left' taken taken') (λ i by records. lines-judged by records i)
+    (SettlesEarly-behind None o verdict_words first left left' taken taken' opens settles)
+
+-- ---- how it ended
+
+-- the old claims say nothing of a fault of the records
+same-faults : (front : Front) (a b : Nonces) (rest : List ℕ) (fault : EngineFault) → IsRecordsFault (opened_with front a) rest fault ≡ IsRecordsFault (opened_with front b) rest fault
+same-faults front a b rest Memory = refl
+same-faults front a b rest Read = refl
+same-faults front a b rest Write = refl
+same-faults front a b rest (Batch fault) = refl
+same-faults front a b rest (Circuit fault) = refl
+
+pub faults-same : (front : Front) (a b : Nonces) → IsRecordsFault (opened_with front a) ≡ IsRecordsFault (opened_with front b)
+faults-same front a b = λ i rest fault. same-faults front a b rest fault i
+
+module _ (is_fault : List ℕ → EngineFault → Type 0) (takes : Option (List ℕ) → Option (List ℕ) → Type 0) (left left' : Option (List ℕ)) (reads reads' writes writes' : ℕ) {T U : Type 0} where
+  -- a fault that is handed on
+  pub Ends-err : (fault : EngineFault) → Ends {T = T} is_fault takes left left' reads reads' writes writes' (Err fault) → Ends {T = U} is_fault takes left left' reads reads' writes writes' (Err fault)
+  Ends-err fault e = record {
+    fault = e.fault;
+    few = e.few;
+    read = λ is. let same : fault ≡ Read = cc in e.read (ap Err same);
+    write = λ is. let same : fault ≡ Write = cc in e.write (ap Err same);
+    later_in = e.later_in;
+    later_out = e.later_out;
+  }
+
+  pub Ends-ok : (x : T) (y : U) → Ends {T = T} is_fault takes left left' reads reads' writes writes' (Ok x) → Ends {T = U} is_fault takes left left' reads reads' writes writes' (Ok y)
+  Ends-ok x y e = record {
+    fault = tt;
+    few = e.few;
+    read = λ is. let no : ⊥ = cc in absurd no;
+    write = λ is. let no : ⊥ = cc in absurd no;
+    later_in = e.later_in;
+    later_out = e.later_out;
+  }
+
+  -- want of memory, behind all that was read and written
+  pub Ends-wanting : (x : T) → Ends {T = T} is_fault takes left left' reads reads' writes writes' (Ok x) → Ends {T = U} is_fault takes left left' reads reads' writes writes' (Err Memory)
+  Ends-wanting x e = record {
+    fault = tt;
+    few = e.few;
+    read = λ is. let no : ⊥ = cc in absurd no;
+    write = λ is. let no : ⊥ = cc in absurd no;
+    later_in = e.later_in;
+    later_out = e.later_out;
+  }
+
+pub Breaks-wanting : (front : Front) (line : List (List ℕ) → List ℕ → List ℕ) (follows : List (List ℕ) → Type 0) (left left' taken taken' : Option (List ℕ))
+    → Judges (bytes_of front.shape) front.header.reports line follows left left' taken taken' → Breaks Memory front.shape front.header.reports line left left' taken taken'
+Breaks-wanting front line follows left left' taken taken' all = record {
+  behind = λ no. no;
+  stops = Stops-all (bytes_of front.shape) front.header.reports line follows left left' taken taken' taken' all (Keeps-refl taken');
+  settles = λ input. absurd input;
+}

@@ -1,0 +1,8 @@
+use Rattle.std.proofs.Common.{◌≡◌, ◌∙◌, refl, rules}
+use Rattle.flp_verify.specs.Settled.{seen_by}
+use Rattle.flp_verify.proofs.WholeLemmas.{IsCounted-behind}
+use Rattle.flp_verify.proofs.batch.conclude.Goals as goal
+
+pub returns : goal.returns
+returns g c = λ least start records s p.
+    IsCounted-behind c.args.front.now least start _ records _ s p refl refl (c.end_by-end.ensures ∙ c.first_refusal.ensures) c.args.front.now.outs c.in_ok.ensures.seen
