@@ -15,3 +15,5 @@ pub mod Counted
 pub mod Rows
 -- what the totals of these rows are, and what is printed of them
 pub mod Laws
+-- how a batch ended
+pub mod Reply

@@ -1,9 +1,10 @@
 -- What `verify` writes of a batch, from what its records are judged by and the records.
-use Rattle.std.specs.Prelude.{ℕ, List}
+use Rattle.std.specs.Prelude.{ℕ, Bool, Option, List}
 use Rattle.flp_batch.specs.Setting.{Setting}
 use Rattle.flp_batch.specs.Lines.{Wording}
 use Rattle.flp_verdict.specs.Verdicts.{Judged, judged, judged_after}
 use Rattle.flp_verdict.specs.Text.{line_of, judged_lines, text_of}
+use Rattle.flp_verdict.specs.Release.{Answers, released_text, withheld_from}
 
 -- each record beside its verdict
 abbrev pub judged_by : Setting → (reports : List (List ℕ)) → List Judged
@@ -23,3 +24,10 @@ text_by by reports = text_of by.circuit by.shape by.claims reports
 -- all that is written
 abbrev pub words_by : Setting → Wording
 words_by by = record { line = verdict_line by; text = text_by by }
+
+-- the whole text where policies may withhold the aggregate, and the policy that does
+abbrev pub released_by : (least : ℕ) → Answers → (claims : Bool) → Setting → (reports : List (List ℕ)) → List ℕ
+released_by least would claims by reports = released_text by.circuit by.shape least would claims by.claims reports
+
+abbrev pub refused_by : (least : ℕ) → Answers → Setting → (reports : List (List ℕ)) → Option ℕ
+refused_by least would by reports = withheld_from by.circuit by.shape least would by.claims reports
