@@ -1,7 +1,7 @@
 -- The ends of `prove` and `lengths`, which write nothing before they know their reply, in the words of their dutys.
-use Rattle.std.proofs.Common.{◌≡◌, ℕ, ◌≤◌, Bool, Option, None, Some, Result, Ok, Err, List, [], ◌∷◌, length, take, refl, sym, ap, subst, ◌∙◌, inl, inr, ◌⊎◌, ⊎_elim, arith}
+use Rattle.std.proofs.Common.{◌≡◌, ℕ, ◌≤◌, Option, None, Some, Result, Ok, Err, List, [], ◌∷◌, length, take, refl, sym, ap, subst, ◌∙◌, inl, inr, ◌⊎◌, ⊎_elim, arith}
 use Rattle.std.specs.Prelude.{◌≢◌, IfSome, IfErr, IsTrue, OnOk}
-use Rattle.std.specs.Io.KnownBytes.{Appends, Keeps}
+use Rattle.std.specs.Io.KnownBytes.{Keeps}
 use Rattle.std.proofs.KnownBytes.{Consumes-nil, Keeps-refl}
 use Rattle.std.proofs.lemmas.Grind.{common_steps}
 use Rattle.flp_io.specs.Writes.{TakesPrefix}
@@ -10,7 +10,6 @@ use Rattle.flp_syntax.specs.Tree.{Program}
 use Rattle.flp_report.specs.declared.fault.BatchFault.{BatchFault}
 use Rattle.flp_load.specs.Loaded.{IsLoaded}
 use Rattle.flp_load.specs.Laws as load
-use Rattle.flp_policy.specs.Counts.{VerdictCounts}
 use Rattle.flp_batch.specs.declared.fault.EngineFault.{EngineFault}
 use Rattle.flp_batch.specs.declared.fault.EngineFault.TheVariants.{Memory, Read, Write, Batch, Circuit}
 use Rattle.flp_batch.specs.Format.{job_files, front_size}
@@ -22,6 +21,7 @@ use Rattle.flp_jobs.specs.Fault.{IfJobs}
 use Rattle.flp_jobs.specs.Laws as jobs
 use Rattle.flp_jobs.specs.Record.{batch_made}
 use Rattle.flp_jobs.specs.Reply.{ProveEnds, WritesBatch, StopsInBatch, IsRefusal}
+use Rattle.flp_verdict.specs.Release.{Answers}
 use Rattle.flp_verify.specs.Text.{verdict_lines}
 use Rattle.flp_prep.specs.Text.{prepared_lines}
 use Rattle.flp_explain.specs.Text.{explained_lines}
@@ -32,34 +32,41 @@ use Rattle.flp_lengths.specs.Reading.{judged_text}
 use Rattle.flp_lengths.specs.Reply.{WritesLengths, StopsInLengths, StopsBy, IsFaultOfText}
 use Rattle.flp_lengths.specs.Text.{lengths_text}
 use Rattle.flp_lines.specs.Fault.{memory_line}
-use Rattle.flp_cli.specs.Answers.{IsRefusalStatus, is_one_of, engine_status, file_status, status_of, by_file}
-use Rattle.flp_cli.specs.Runs.{Done, Refused, Writes, Runs}
-use Rattle.flp_cli.specs.Ends.{HasOneReply, RefusesInput, EndsAs}
-use Rattle.flp_cli.specs.Commands.{Reports, prove_duty, lengths_duty, duty_of}
+use Rattle.flp_cli.specs.declared.answers.Ending.TheVariants as ending
+use Rattle.flp_cli.specs.Answers.{IsRefusalStatus, is_one_of, engine_status, file_status, status_of, all_done, by_file}
+use Rattle.flp_cli.specs.Runs.{Done, Withheld, Refused, Writes, StopsInReply, Runs}
+use Rattle.flp_cli.specs.Ends.{HasOneReply, Finishes, RefusesInput, EndsAs}
+use Rattle.flp_cli.specs.Commands.{lines_reply, verify_reply, prove_duty, lengths_duty, duty_of}
 use Rattle.flp_cli.specs.Stream.{Stream, Says}
 use Rattle.flp_cli.proofs.StatusLemmas.{file-status}
-use Rattle.flp_cli.proofs.BatchLemmas.{NeverBoth, OneFault, batch-one, lines-one, batch-unread}
-use Rattle.flp_cli.proofs.RunLemmas.{not_refused, run-memory, still, within-none}
+use Rattle.flp_cli.proofs.BatchLemmas.{OneSetting, NeverBoth, OneFault, batch-one, lines-one, batch-unread}
+use Rattle.flp_cli.proofs.RunLemmas.{not_refused, end-done, end-failed, run-memory, still, within-none}
 
 -- ---- `prove`
 
 pub prove-one : jobs.NeverBoth → jobs.OneRefusal → HasOneReply prove_duty
 prove-one never one bytes (Done a) (Done b) x y = refl
+prove-one never one bytes (Done a) (Withheld b) x y = absurd y
 prove-one never one bytes (Done a) (Refused f) x y = absurd (never bytes x.setting f x.provable y)
+prove-one never one bytes (Withheld a) other x y = absurd x
+prove-one never one bytes (Refused f) (Withheld b) x y = absurd y
 prove-one never one bytes (Refused f) (Done b) x y = absurd (never bytes y.setting f y.provable x)
 prove-one never one bytes (Refused f) (Refused g) x y = ap status_of (one bytes f g x y)
 
-prove-done : (input output : Stream) → WritesBatch input.old input.new output.old output.new → Writes prove_duty Appends input output
+prove-done : (input output : Stream) → WritesBatch input.old input.new output.old output.new → Finishes prove_duty input output ending.Done
 prove-done input output done = record {
-  bytes = done.bytes;
-  text = batch_made done.setting done.bytes;
-  read = done.read;
-  ended = done.ended;
-  replied = record { setting = done.setting; provable = done.provable; made = refl };
-  written = done.written;
+  known = refl;
+  writes = record {
+    bytes = done.bytes;
+    text = batch_made done.setting done.bytes;
+    read = done.read;
+    ended = done.ended;
+    replied = record { setting = done.setting; provable = done.provable; made = refl };
+    written = done.written;
+  };
 }
 
-prove-late : (input output : Stream) → StopsInBatch input.old input.new output.old output.new → Writes prove_duty TakesPrefix input output
+prove-late : (input output : Stream) → StopsInBatch input.old input.new output.old output.new → Writes prove_duty Done TakesPrefix input output
 prove-late input output done = record {
   bytes = done.bytes;
   text = batch_made done.setting done.bytes;
@@ -86,10 +93,10 @@ prove-refused input (Place p f) told is = record { known = refl; replied = told 
 
 prove-early : (input output : Stream) (fault : ProveFault) → (fault ≢ File Write → Keeps output.old output.new)
     → (fault ≡ File Write → StopsInBatch input.old input.new output.old output.new)
-    → prove_duty.early (status_of fault) input output ⊎ ((fault ≡ File Write) × Writes prove_duty TakesPrefix input output)
+    → prove_duty.early (status_of fault) input output ⊎ ((fault ≡ File Write) × StopsInReply prove_duty input output)
 prove-early input output (File Memory) kept stopped = inl ((λ is. omega arith), kept (λ is. cc))
 prove-early input output (File Read) kept stopped = inl ((λ is. omega arith), kept (λ is. cc))
-prove-early input output (File Write) kept stopped = inr (refl, prove-late input output (stopped refl))
+prove-early input output (File Write) kept stopped = inr (refl, inl (prove-late input output (stopped refl)))
 prove-early input output (File (Batch f)) kept stopped = inl (not_write f, kept (λ is. cc))
 prove-early input output (File (Circuit f)) kept stopped = inl ((λ is. omega arith), kept (λ is. cc))
 prove-early input output (Place p f) kept stopped = inl ((λ is. omega arith), kept (λ is. cc))
@@ -100,21 +107,15 @@ pub prove-ends : {T : Type 0} (input output : Stream) (result : Result T ProveFa
     → IfErr result (λ fault. fault ≢ File Write → Keeps output.old output.new)
     → (result ≡ Err (File Write) → StopsInBatch input.old input.new output.old output.new)
     → ProveEnds input.old input.new input.faults input.faults_now output.faults output.faults_now result
-    → EndsAs prove_duty input output result
-prove-ends input output (Ok value) done kept stopped ends = record {
-  done = prove-done input output done;
-  stopped = tt;
-  refused = tt;
-  read = λ is. cc;
-  write = λ is. cc;
-  takes = ends.few;
-}
+    → EndsAs prove_duty input output (all_done result)
+prove-ends input output (Ok nothing) done kept stopped ends =
+    end-done prove_duty input output ending.Done (prove-done input output done) ends.few
 prove-ends input output (Err fault) done kept stopped ends = record {
   done = tt;
   stopped = prove-early input output fault kept (λ is. stopped (ap Err is));
   refused = prove-refused input fault ends.fault;
-  read = ends.read;
-  write = ends.write;
+  read = λ is. ends.read cc;
+  write = λ is. ends.write cc;
   takes = ends.few;
 }
 
@@ -137,6 +138,9 @@ text-status bytes (Circuit f) is = refl
 
 pub lengths-one : load.NeverBoth → HasOneReply lengths_duty
 lengths-one never bytes (Done a) (Done b) x y = refl
+lengths-one never bytes (Done a) (Withheld b) x y = absurd y
+lengths-one never bytes (Withheld a) other x y = absurd x
+lengths-one never bytes (Refused (File f)) (Withheld b) x y = absurd y
 lengths-one never bytes (Done a) (Refused (File f)) x y = absurd (no_fault never bytes f x.params x.circuit x.loaded y)
 lengths-one never bytes (Done a) (Refused (Place p f)) x y = absurd y
 lengths-one never bytes (Refused (File f)) (Done b) x y = absurd (no_fault never bytes f y.params y.circuit y.loaded x)
@@ -151,24 +155,27 @@ all-taken most text few = grind (arith, common_steps)
 whole-text : (text : List ℕ) → length text ≤ 65537 → text ≡ judged_text text
 whole-text text few = all-taken 65537 text few
 
-lengths-done : (input output : Stream) → WritesLengths input.old input.new output.old output.new → Writes lengths_duty Appends input output
+lengths-done : (input output : Stream) → WritesLengths input.old input.new output.old output.new → Finishes lengths_duty input output ending.Done
 lengths-done input output done =
     let reads = done.read in
     record {
-      bytes = reads.text;
-      text = lengths_text done.circuit;
-      read = reads.read.read;
-      ended = reads.ended;
-      replied = record {
-        params = done.params;
-        circuit = done.circuit;
-        made = refl;
-        loaded = subst (λ (t : List ℕ). IsLoaded t done.params done.circuit) (whole-text reads.text reads.read.few) reads.loaded;
+      known = refl;
+      writes = record {
+        bytes = reads.text;
+        text = lengths_text done.circuit;
+        read = reads.read.read;
+        ended = reads.ended;
+        replied = record {
+          params = done.params;
+          circuit = done.circuit;
+          made = refl;
+          loaded = subst (λ (t : List ℕ). IsLoaded t done.params done.circuit) (whole-text reads.text reads.read.few) reads.loaded;
+        };
+        written = done.written;
       };
-      written = done.written;
     }
 
-lengths-late : (input output : Stream) → StopsInLengths input.old input.new output.old output.new → Writes lengths_duty TakesPrefix input output
+lengths-late : (input output : Stream) → StopsInLengths input.old input.new output.old output.new → Writes lengths_duty Done TakesPrefix input output
 lengths-late input output done =
     let reads = done.read in
     record {
@@ -186,10 +193,10 @@ lengths-late input output done =
     }
 
 lengths-early : (input output : Stream) (fault : EngineFault) → StopsBy fault input.old input.new output.old output.new
-    → lengths_duty.early (engine_status fault) input output ⊎ ((File fault ≡ File Write) × Writes lengths_duty TakesPrefix input output)
+    → lengths_duty.early (engine_status fault) input output ⊎ ((fault ≡ Write) × StopsInReply lengths_duty input output)
 lengths-early input output Memory stopped = inl (record { nothing = ((λ is. omega arith), stopped); judged = λ is. absurd (omega arith) })
 lengths-early input output Read stopped = inl (record { nothing = ((λ is. omega arith), stopped); judged = λ is. absurd (omega arith) })
-lengths-early input output Write stopped = inr (refl, lengths-late input output stopped)
+lengths-early input output Write stopped = inr (refl, inl (lengths-late input output stopped))
 lengths-early input output (Batch f) stopped = absurd stopped
 lengths-early input output (Circuit f) stopped = inl (record { nothing = ((λ is. omega arith), stopped.0); judged = λ _. (f, stopped.1) })
 
@@ -206,33 +213,22 @@ pub lengths-ends : {T : Type 0} (input output : Stream) (result : Result T Engin
     → OnOk result (WritesLengths input.old input.new output.old output.new)
     → IfErr result (λ fault. StopsBy fault input.old input.new output.old output.new)
     → Ends IsFaultOfText (ConsumesAtMost 65537) input.old input.new input.faults input.faults_now output.faults output.faults_now result
-    → EndsAs lengths_duty input output (by_file result)
-lengths-ends input output (Ok value) done stopped ends = record {
-  done = lengths-done input output done;
-  stopped = tt;
-  refused = tt;
-  read = λ is. cc;
-  write = λ is. cc;
-  takes = ends.few;
-}
-lengths-ends input output (Err fault) done stopped ends = record {
-  done = tt;
-  stopped = lengths-early input output fault stopped;
-  refused = lengths-refused input output fault stopped ends.fault;
-  read = λ is. let same : fault ≡ Read = cc is in ends.read (ap Err same);
-  write = λ is. let same : fault ≡ Write = cc is in ends.write (ap Err same);
-  takes = ends.few;
-}
+    → EndsAs lengths_duty input output (by_file (all_done result))
+lengths-ends input output (Ok nothing) done stopped ends =
+    end-done lengths_duty input output ending.Done (lengths-done input output done) ends.few
+lengths-ends input output (Err fault) done stopped ends =
+    end-failed lengths_duty input output fault (lengths-early input output fault stopped) (lengths-refused input output fault stopped ends.fault)
+    (λ is. ends.read (ap Err is)) (λ is. ends.write (ap Err is)) ends.few
 
 -- ---- one reply, whichever the command
 
-pub one-reply : NeverBoth → OneFault → jobs.NeverBoth → jobs.OneRefusal → load.NeverBoth
-    → (would : VerdictCounts → List Bool) (command : Command) → HasOneReply (duty_of would command)
-one-reply never fault jobs refusal text would (Verify workers) = batch-one never fault None verdict_lines (Reports would)
-one-reply never fault jobs refusal text would Prove = prove-one jobs refusal
-one-reply never fault jobs refusal text would Lengths = lengths-one text
-one-reply never fault jobs refusal text would (Prep party) = lines-one never fault (Some party) (prepared_lines party)
-one-reply never fault jobs refusal text would Explain = lines-one never fault None explained_lines
+pub one-reply : OneSetting → NeverBoth → OneFault → jobs.NeverBoth → jobs.OneRefusal → load.NeverBoth
+    → (would : Answers) (command : Command) → HasOneReply (duty_of would command)
+one-reply setting never fault jobs refusal text would (Verify workers least claims) = batch-one setting never fault None (9 ∷ []) verdict_lines (verify_reply least would claims)
+one-reply setting never fault jobs refusal text would Prove = prove-one jobs refusal
+one-reply setting never fault jobs refusal text would Lengths = lengths-one text
+one-reply setting never fault jobs refusal text would (Prep party) = lines-one setting never fault (Some party) (prepared_lines party)
+one-reply setting never fault jobs refusal text would Explain = lines-one setting never fault None explained_lines
 
 -- ---- no memory for the words
 
@@ -252,22 +248,19 @@ lengths-unread left taken reads writes errors line =
 
 -- ---- no memory for the words, whatever they name
 
-pub unread : (would : VerdictCounts → List Bool) (command : Command) (left taken : Option (List ℕ)) (reads writes : ℕ) (errors : Stream) → Says errors memory_line
+pub unread : (would : Answers) (command : Command) (left taken : Option (List ℕ)) (reads writes : ℕ) (errors : Stream) → Says errors memory_line
     → Runs (duty_of would command) (still left reads) (still taken writes) errors 3
-unread would (Verify workers) left taken reads writes errors line = batch-unread None verdict_lines (Reports would) left taken reads writes errors line
+unread would (Verify workers least claims) left taken reads writes errors line =
+    batch-unread None (9 ∷ []) verdict_lines (verify_reply least would claims) left taken reads writes errors line
 unread would Prove left taken reads writes errors line = prove-unread left taken reads writes errors line
 unread would Lengths left taken reads writes errors line = lengths-unread left taken reads writes errors line
 unread would (Prep party) left taken reads writes errors line =
-    batch-unread (Some party) (prepared_lines party) (λ by records text. text ≡ prepared_lines party by records) left taken reads writes errors line
+    batch-unread (Some party) [] (prepared_lines party) (lines_reply (prepared_lines party)) left taken reads writes errors line
 unread would Explain left taken reads writes errors line =
-    batch-unread None explained_lines (λ by records text. text ≡ explained_lines by records) left taken reads writes errors line
+    batch-unread None [] explained_lines (lines_reply explained_lines) left taken reads writes errors line
 
--- the end and the run of a command that has another name
-pub end-for : {T : Type 0} (would : VerdictCounts → List Bool) (command other : Command) (input output : Stream) (result : Result T ProveFault) → command ≡ other
-    → EndsAs (duty_of would command) input output result → EndsAs (duty_of would other) input output result
-end-for would command other input output result same ends = subst (λ (c : Command). EndsAs (duty_of would c) input output result) same ends
-
-pub run-for : (would : VerdictCounts → List Bool) (command other : Command) (input output errors : Stream) (status : ℕ) → command ≡ other
+-- the run of a command that has another name
+pub run-for : (would : Answers) (command other : Command) (input output errors : Stream) (status : ℕ) → command ≡ other
     → Runs (duty_of would command) input output errors status → Runs (duty_of would other) input output errors status
 run-for would command other input output errors status same runs =
     subst (λ (c : Command). Runs (duty_of would c) input output errors status) same runs

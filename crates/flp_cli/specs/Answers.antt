@@ -13,6 +13,10 @@ use Rattle.flp_jobs.specs.declared.fault.PlaceFault.{PlaceFault}
 use Rattle.flp_jobs.specs.declared.fault.PlaceFault.TheVariants as place
 use Rattle.flp_jobs.specs.declared.fault.ProveFault.{ProveFault}
 use Rattle.flp_jobs.specs.declared.fault.ProveFault.TheVariants.{File, Place}
+use Rattle.flp_verify.specs.declared.counted.End.{End}
+use Rattle.flp_verify.specs.declared.counted.End.TheVariants.{Released, Withheld}
+use Rattle.flp_cli.specs.declared.answers.Ending.{Ending}
+use Rattle.flp_cli.specs.declared.answers.Ending.TheVariants as ending
 
 -- ---- statuses
 
@@ -72,15 +76,31 @@ status_line status =
 
 -- ---- the end of a command
 
-abbrev pub end_status : {T : Type 0} → Result T ProveFault → ℕ
-end_status (Ok done) = 0
+-- the exit status of a command that wrote its whole text
+abbrev pub ending_status : Ending → ℕ
+ending_status ending.Done = 0
+ending_status ending.Withheld = 9
+
+abbrev pub end_status : Result Ending ProveFault → ℕ
+end_status (Ok ending) = ending_status ending
 end_status (Err fault) = status_of fault
 
-abbrev pub end_line : {T : Type 0} → FileKind → Result T ProveFault → List ℕ
-end_line kind (Ok done) = []
+abbrev pub end_line : FileKind → Result Ending ProveFault → List ℕ
+end_line kind (Ok ending) = []
 end_line kind (Err fault) = failure_line kind fault
+
+-- the end of a command that withholds nothing
+abbrev pub all_done : {T F : Type 0} → Result T F → Result Ending F
+all_done (Ok nothing) = Ok ending.Done
+all_done (Err fault) = Err fault
+
+-- the end of `verify`
+abbrev pub released : {F : Type 0} → Result End F → Result Ending F
+released (Ok Released) = Ok ending.Done
+released (Ok (Withheld policy)) = Ok ending.Withheld
+released (Err fault) = Err fault
 
 -- the end of a command whose faults are all of the file
 abbrev pub by_file : {T : Type 0} → Result T EngineFault → Result T ProveFault
-by_file (Ok done) = Ok done
+by_file (Ok ending) = Ok ending
 by_file (Err fault) = Err (File fault)

@@ -1,21 +1,17 @@
 -- The commands of the program: what each replies, what it has written where it ends early, and how much it reads.
-use Rattle.std.specs.Prelude.{◌≡◌, ◌≢◌, ◌⊎◌, ℕ, Bool, true, List, [], ◌∷◌, ◌++◌, Option, None, Some, codes, decimal}
-use Rattle.std.specs.List.{All}
+use Rattle.std.specs.Prelude.{◌≡◌, ◌≢◌, ◌⊎◌, ℕ, Bool, List, [], ◌∷◌, Option, None, Some}
 use Rattle.std.specs.Io.KnownBytes.{Keeps}
 use Rattle.flp_syntax.specs.declared.syntax.Params.{Params}
 use Rattle.flp_syntax.specs.Tree.{Program}
 use Rattle.flp_report.specs.Batch.{whole_records}
 use Rattle.flp_load.specs.declared.fault.CircuitFault.{CircuitFault}
 use Rattle.flp_load.specs.Loaded.{IsLoaded}
-use Rattle.flp_policy.specs.Counts.{VerdictCounts, counts_of}
 use Rattle.flp_batch.specs.Setting.{Setting}
 use Rattle.flp_batch.specs.Format.{batches, job_files, newest_read}
 use Rattle.flp_batch.specs.File.{IsBatch, IsFault, TakesFew}
 use Rattle.flp_batch.specs.Reply.{StopsEarly, SettlesEarly}
-use Rattle.flp_verdict.specs.Verdicts.{verdicts_of}
-use Rattle.flp_verdict.specs.Totals.{count_of, aggregate_of}
-use Rattle.flp_verdict.specs.Text.{spaced}
-use Rattle.flp_verify.specs.Text.{judged_by, verdict_lines}
+use Rattle.flp_verdict.specs.Release.{Answers}
+use Rattle.flp_verify.specs.Text.{verdict_lines, released_by, refused_by}
 use Rattle.flp_prep.specs.Text.{prepared_lines}
 use Rattle.flp_explain.specs.Text.{explained_lines}
 use Rattle.flp_batch.specs.JobSetting.{JobSetting}
@@ -29,23 +25,24 @@ use Rattle.flp_lengths.specs.Text.{lengths_text}
 use Rattle.flp_lines.specs.declared.fault.FileKind.TheVariants as kind
 use Rattle.flp_words.specs.declared.command.Command.{Command}
 use Rattle.flp_words.specs.declared.command.Command.TheVariants.{Verify, Prove, Lengths, Prep, Explain}
-use Rattle.flp_cli.specs.Runs.{Reply, Done, Refused, Duty}
+use Rattle.flp_cli.specs.Runs.{Reply, Done, Withheld, Refused, Duty}
 use Rattle.flp_cli.specs.Stream.{Stream}
 
 -- ---- batches
 
--- bytes are a batch, and of its setting and records this text is made
-pub record MakesText (party : Option ℕ) (makes : Setting → List (List ℕ) → List ℕ → Type 0) (bytes text : List ℕ) : Type 0 where
+-- bytes are a batch, and this is the reply to its setting and records
+pub record IsReply (party : Option ℕ) (replies : Setting → List (List ℕ) → Reply) (bytes : List ℕ) (reply : Reply) : Type 0 where
   pub params : Option Params
   pub setting : Setting
   pub is_batch : IsBatch party bytes params setting
-  pub made : makes setting (whole_records newest_read party setting.shape bytes) text
+  pub made : reply ≡ replies setting (whole_records newest_read party setting.shape bytes)
 
--- the text of a batch, or its first fault
-abbrev pub batch_reply : Option ℕ → (makes : Setting → List (List ℕ) → List ℕ → Type 0) → List ℕ → Reply → Type 0
-batch_reply party makes bytes (Done text) = MakesText party makes bytes text
-batch_reply party makes bytes (Refused (File fault)) = IsFault (batches party) bytes fault
-batch_reply party makes bytes (Refused (Place place fault)) = ⊥
+-- the reply to a batch, or its first fault
+abbrev pub batch_reply : Option ℕ → (replies : Setting → List (List ℕ) → Reply) → List ℕ → Reply → Type 0
+batch_reply party replies bytes (Done text) = IsReply party replies bytes (Done text)
+batch_reply party replies bytes (Withheld text) = IsReply party replies bytes (Withheld text)
+batch_reply party replies bytes (Refused (File fault)) = IsFault (batches party) bytes fault
+batch_reply party replies bytes (Refused (Place place fault)) = ⊥
 
 -- nothing was written, or a prefix of the lines of the records that were read whole; nothing of a file whose
 -- circuit is refused; and where the input failed or is no batch, the lines of all segments in front of that stand
@@ -54,40 +51,37 @@ pub record WritesFront (party : Option ℕ) (lines : Setting → List (List ℕ)
   pub kept : status ≡ 7 → Keeps output.old output.new
   pub settled : (status ≡ 4) ⊎ (status ≡ 6) → SettlesEarly party lines input.old input.new output.old output.new
 
-abbrev pub batch_duty : Option ℕ → (lines : Setting → List (List ℕ) → List ℕ) → (makes : Setting → List (List ℕ) → List ℕ → Type 0) → Duty
-batch_duty party lines makes = record {
+-- a command that reads a batch, and may end with these statuses besides those of a fault
+abbrev pub batch_duty : Option ℕ → (statuses : List ℕ) → (lines : Setting → List (List ℕ) → List ℕ) → (replies : Setting → List (List ℕ) → Reply) → Duty
+batch_duty party statuses lines replies = record {
   kind = kind.Batch;
-  refusals = 6 ∷ 7 ∷ [];
-  replies = batch_reply party makes;
+  statuses = 6 ∷ 7 ∷ statuses;
+  replies = batch_reply party replies;
   early = WritesFront party lines;
   takes = TakesFew (batches party);
 }
 
 -- a command that writes lines of the records, and nothing behind them
+abbrev pub lines_reply : (Setting → List (List ℕ) → List ℕ) → Setting → List (List ℕ) → Reply
+lines_reply lines by records = Done (lines by records)
+
 abbrev pub lines_duty : Option ℕ → (Setting → List (List ℕ) → List ℕ) → Duty
-lines_duty party lines = batch_duty party lines (λ by records text. text ≡ lines by records)
+lines_duty party lines = batch_duty party [] lines (lines_reply lines)
 
--- ---- `verify`, with policies that are given by what each would say after further verdicts
+-- ---- `verify`, with policies that are given by what each would answer after further verdicts
 
--- every policy allows the release, told the verdicts on these records
-abbrev pub AllAllow : (VerdictCounts → List Bool) → Setting → (records : List (List ℕ)) → Type 0
-AllAllow would by records = All (λ yes. yes ≡ true) (would (counts_of (verdicts_of by.circuit by.shape by.claims records)))
+-- a text whose aggregate this policy withholds, or none does
+abbrev pub reply_with : (withheld : Option ℕ) → (text : List ℕ) → Reply
+reply_with None text = Done text
+reply_with (Some policy) text = Withheld text
 
--- the count line and the aggregate line
-abbrev pub count_line : Setting → (records : List (List ℕ)) → List ℕ
-count_line by records = codes "count " ++ decimal (count_of (judged_by by records)) ++ codes "\n"
+-- the text of a batch, whose aggregate is withheld where fewer than `least` reports are accepted or a policy does not
+-- allow the release
+abbrev pub verify_reply : (least : ℕ) → Answers → (claims : Bool) → Setting → (records : List (List ℕ)) → Reply
+verify_reply least would claims by records = reply_with (refused_by least would by records) (released_by least would claims by records)
 
-abbrev pub aggregate_line : Setting → (records : List (List ℕ)) → List ℕ
-aggregate_line by records = codes "aggregate" ++ spaced (aggregate_of by.circuit by.shape (judged_by by records)) ++ codes "\n"
-
--- the lines of the records and the count line, and behind them the aggregate line where every policy allows it
-pub record Reports (would : VerdictCounts → List Bool) (by : Setting) (records : List (List ℕ)) (text : List ℕ) : Type 0 where
-  pub ending : List ℕ
-  pub parts : text ≡ verdict_lines by records ++ count_line by records ++ ending
-  pub released : AllAllow would by records → ending ≡ aggregate_line by records
-
-abbrev pub verify_duty : (VerdictCounts → List Bool) → Duty
-verify_duty would = batch_duty None verdict_lines (Reports would)
+abbrev pub verify_duty : (least : ℕ) → Answers → (claims : Bool) → Duty
+verify_duty least would claims = batch_duty None (9 ∷ []) verdict_lines (verify_reply least would claims)
 
 -- ---- `prove` and `lengths`, which write nothing before they know their reply
 
@@ -103,12 +97,13 @@ pub record BatchOfJobs (bytes text : List ℕ) : Type 0 where
 
 abbrev pub prove_reply : List ℕ → Reply → Type 0
 prove_reply bytes (Done text) = BatchOfJobs bytes text
+prove_reply bytes (Withheld text) = ⊥
 prove_reply bytes (Refused fault) = IsRefusal bytes fault
 
 abbrev pub prove_duty : Duty
 prove_duty = record {
   kind = kind.Job;
-  refusals = 6 ∷ 7 ∷ 8 ∷ [];
+  statuses = 6 ∷ 7 ∷ 8 ∷ [];
   replies = prove_reply;
   early = WritesNothing;
   takes = TakesFew job_files;
@@ -123,6 +118,7 @@ pub record MakesLengths (bytes text : List ℕ) : Type 0 where
 
 abbrev pub lengths_reply : List ℕ → Reply → Type 0
 lengths_reply bytes (Done text) = MakesLengths bytes text
+lengths_reply bytes (Withheld text) = ⊥
 lengths_reply bytes (Refused (File fault)) = IsFaultOfText bytes fault
 lengths_reply bytes (Refused (Place place fault)) = ⊥
 
@@ -134,7 +130,7 @@ pub record WritesNoLengths (status : ℕ) (input output : Stream) : Type 0 where
 abbrev pub lengths_duty : Duty
 lengths_duty = record {
   kind = kind.Circuit;
-  refusals = 7 ∷ [];
+  statuses = 7 ∷ [];
   replies = lengths_reply;
   early = WritesNoLengths;
   takes = ConsumesAtMost 65537;
@@ -142,8 +138,8 @@ lengths_duty = record {
 
 -- ---- the table of commands
 
-abbrev pub duty_of : (VerdictCounts → List Bool) → Command → Duty
-duty_of would (Verify workers) = verify_duty would
+abbrev pub duty_of : Answers → Command → Duty
+duty_of would (Verify workers least claims) = verify_duty least would claims
 duty_of would Prove = prove_duty
 duty_of would Lengths = lengths_duty
 duty_of would (Prep party) = lines_duty (Some party) (prepared_lines party)

@@ -2,7 +2,7 @@
 ghost use Rattle.std.specs.Prelude.{◌≡◌, ◌≤◌, ◌++◌, if◌then◌else◌, length};
 ghost use Rattle.flp_io.specs.Writes.{WritesTo};
 ghost use Rattle.flp_lines.specs.Fault.{memory_line};
-ghost use Rattle.flp_cli.specs.Answers.{file_status, engine_status, status_of, place_text, place_line, failure_line, usage_line};
+ghost use Rattle.flp_cli.specs.Answers.{ending_status, file_status, engine_status, status_of, place_text, place_line, failure_line, usage_line};
 ghost use Rattle.flp_cli.specs.Stream.{over, Says};
 
 use flp_io::{Failed, Sink, put};
@@ -10,6 +10,25 @@ use flp_jobs::{PlaceFault, ProveFault};
 use flp_lines::{FileKind, Line, put_file_fault, put_memory};
 use flp_report::BatchFault;
 use flp_verify::EngineFault;
+
+/// How a command ended that wrote its whole text.
+#[derive(Clone, Copy, Debug, PartialEq, Eq)]
+pub(crate) enum Ending {
+    /// It is done.
+    Done,
+    /// It is done, and the aggregate is withheld.
+    Withheld,
+}
+
+/// The exit status of a command that wrote its whole text.
+pub(crate) fn ending_status(ending: Ending) -> u8
+    ensures { result ≡ ending_status ending }
+{
+    match ending {
+        Ending::Done => 0,
+        Ending::Withheld => 9,
+    }
+}
 
 /// The exit status of a fault of the file.
 fn file_status(fault: BatchFault) -> u8

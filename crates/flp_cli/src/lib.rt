@@ -7,7 +7,7 @@
 //!
 //! | command | reads | writes | its text is defined in |
 //! |---|---|---|---|
-//! | `verify` | a batch of reports on any circuit | a verdict a report, the count of accepted reports and their aggregate | `flp_verdict` |
+//! | `verify` | a batch of reports on any circuit | a verdict a report, the count of accepted reports, and their aggregate or which policy withholds it | `flp_verdict` |
 //! | `prove` | a job file | the batch that is made of it | `flp_jobs` |
 //! | `lengths` | a circuit text | the lengths of the circuit | `flp_lengths` |
 //! | `prep` | a batch | the verifier words of one share of each report | `flp_prep` |

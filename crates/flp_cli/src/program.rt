@@ -20,14 +20,17 @@ use std::thread::Threads;
 
 /// Runs the program on the words of its command line, the program's own name first.
 ///
-/// `verify --workers N`, N from 1 to 16, reads a batch from `input` and writes its text to
-/// `output`; one thread serves every N. `prove` reads a job file and writes the batch that is made of
-/// it. `lengths` reads a circuit text, of which it asks for at most 65,537 bytes, and writes the
-/// lengths of the circuit. `prep --party K`, K from 0 to 15, reads a batch and writes for each report
-/// the verifier words of share K alone, or the line of `verify` where no proof decided. `explain`
-/// reads a batch and writes for each proof of each report the query word that limits it and how many
-/// values of that word are accepted at most, or that the encoding is valid. For each status but 0 one
-/// line goes to `errors`, whose faults change no answer.
+/// `verify --workers N --min M --claims`, N from 1 to 16 and M from 0 to 4,294,967,295, reads a batch from
+/// `input` and writes its text to `output`: N threads of `rt` verify it, each of which passes `gate` at its points,
+/// and neither N nor the gate changes what is written. The aggregate is released where at least M reports are
+/// accepted, 0 where `--min` is not given, and each of the policies allows it; policy 0 in `withheld` is that floor of M,
+/// and those handed in are numbered from 1. With `--claims` a line for each nonce that is known behind the batch
+/// follows. `prove` reads a job file and writes the batch that is made of it. `lengths` reads a circuit text, of which it
+/// asks for at most 65,537 bytes, and writes the lengths of the circuit. `prep --party K`, K from 0 to 15, reads a batch
+/// and writes for each report the verifier words of share K alone, or the line of `verify` where no proof decided.
+/// `explain` reads a batch and writes for each proof of each report the query word that limits it and how many values
+/// of that word are accepted at most, or that the encoding is valid. For each status but 0 and 9 one line goes to
+/// `errors`, whose faults change no answer.
 ///
 /// | status | meaning | fact of `Runs` |
 /// |---|---|---|
@@ -39,6 +42,7 @@ use std::thread::Threads;
 /// | 6 | the input is no batch, or no job file | `refused` |
 /// | 7 | the circuit is refused; nothing was written | `refused`, `stopped` |
 /// | 8 | a measurement or an encoding is refused; nothing was written | `refused`, `stopped` |
+/// | 9 | the aggregate is withheld; the input was read to its end | `withheld` |
 ///
 /// Which bytes are done with which text, and which are refused, is `duty_of` in
 /// `specs/Commands.antt`. After 3, 4, 5 and 6 the output of `verify` has taken a prefix of the lines of
@@ -46,15 +50,15 @@ use std::thread::Threads;
 /// and of `explain` a prefix of the lines of the reports that were read whole. After 4 and 6 the lines
 /// of all segments in front of the one that could not be read are among them. After 5 the output of
 /// `lengths` has taken a prefix of its lines and that of `prove` a prefix of the batch. The policies,
-/// fewer than 4,294,967,295, are dropped untold, and the gate is not entered.
+/// fewer than 4,294,967,295, are told the verdicts by `verify` alone, and all are dropped within the call.
 pub fn run<R: Threads + Sync, S: Source, K: Sink, E: Sink, G: Gate>(
-    _rt: &R,
+    rt: &R,
     alloc: Global,
     words: &[&str],
     input: &mut S,
     output: &mut K,
     errors: &mut E,
-    _gate: &G,
+    gate: &G,
     policies: Vec<Box<dyn Policy>>,
 ) -> u8
     requires readable { S.ready input.old }
@@ -64,7 +68,7 @@ pub fn run<R: Threads + Sync, S: Source, K: Sink, E: Sink, G: Gate>(
 
     // What a command does: the text that it writes, that all was read, and what each status says.
     ensures does { (command : Command) → command_in (map (λ w. w.now) words.now) ≡ Some command
-        → Runs (duty_of (λ more. map (λ p. would p more 0) policies.items) command)
+        → Runs (duty_of (λ more of. map (λ p. would p more of) policies.items) command)
         (over S.left S.faults input.old input.new) (over K.taken K.faults output.old output.new) (over E.taken E.faults errors.old errors.new) result }
 
     // Words without a command.
@@ -76,9 +80,8 @@ pub fn run<R: Threads + Sync, S: Source, K: Sink, E: Sink, G: Gate>(
     ensures headline { Headline }
 {
     headline();
-    let _policies = policies;
     match command_of(alloc, words) {
-        Ok(Some(command)) => run_command(alloc, command, input, output, errors),
+        Ok(Some(command)) => run_command(rt, alloc, command, input, output, errors, gate, policies),
         Ok(None) => without_words(errors, false),
         Err(_) => without_words(errors, true),
     }

@@ -1,15 +1,29 @@
 -- The commands that `clap` is told of, from the options up to the program.
-use Rattle.std.specs.Prelude.{true, Some, codes}
+use Rattle.std.specs.Prelude.{true, Some, [], ◌∷◌, codes}
 use Rattle.clap.specs.Words.{App, Rule, Text, new_app, new_rule, with_rule, with_subcommand}
-use Rattle.clap.specs.declared.builder.action.ArgAction.TheVariants.{Set}
+use Rattle.clap.specs.declared.builder.action.ArgAction.TheVariants.{Set, SetTrue}
 
--- the option `--name`, which has one value and must be given
+-- the option `--name`, which has one value
+abbrev pub value_option : Text → Rule
+value_option name = record (new_rule name) { long = Some name; action = Some Set }
+
+-- one that must be given
 abbrev pub required_option : Text → Rule
-required_option name = record (new_rule name) { long = Some name; required = true; action = Some Set }
+required_option name = record (value_option name) { required = true }
 
--- `verify --workers N`
+-- one that has this value where it is not given
+abbrev pub default_option : Text → (value : Text) → Rule
+default_option name value = record (value_option name) { defaults = value ∷ [] }
+
+-- the flag `--name`, which has no value
+abbrev pub flag : Text → Rule
+flag name = record (new_rule name) { long = Some name; action = Some SetTrue }
+
+-- `verify --workers N --min M --claims`
 abbrev pub verify_app : App
-verify_app = with_rule (new_app (codes "verify")) (required_option (codes "workers"))
+verify_app =
+    with_rule (with_rule (with_rule (new_app (codes "verify")) (required_option (codes "workers")))
+    (default_option (codes "min") (codes "0"))) (flag (codes "claims"))
 
 -- `prove`
 abbrev pub prove_app : App

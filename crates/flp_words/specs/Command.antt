@@ -1,5 +1,6 @@
 -- The command that the words of the command line name, from the words down to one option.
-use Rattle.std.specs.Prelude.{ℕ, ◌≤◌, List, [], ◌∷◌, Option, Some, None, ⊤, option_map, option_and_then, if◌then◌else◌, codes}
+use Rattle.std.specs.Prelude.{ℕ, ◌≤◌, Bool, false, List, [], ◌∷◌, Option, Some, None, ⊤, option_map, option_and_then, if◌then◌else◌, codes}
+use Rattle.std.specs.Option.{option_map_or}
 use Rattle.std.specs.Str.{bytes_eq}
 use Rattle.clap.specs.Words.{Kinds, Row, Text, fault_of, first_of, subcommand_of}
 use Rattle.flp_words.specs.declared.command.Command.{Command}
@@ -9,19 +10,25 @@ use Rattle.flp_words.specs.Apps.{flp_app}
 
 -- 1 to 16 workers, and a party from 0 to 15
 abbrev pub IsInRange : Command → Type 0
-IsInRange (Verify workers) = (1 ≤ workers) × (workers ≤ 16)
+IsInRange (Verify workers least claims) = (1 ≤ workers) × (workers ≤ 16)
 IsInRange (Prep party) = party ≤ 15
 IsInRange Prove = ⊤
 IsInRange Lengths = ⊤
 IsInRange Explain = ⊤
 
--- the number of an option, where it is given and in the range
+-- the number of an option, where it has a value and that is in the range
 abbrev pub number_of : List Row → Text → ℕ → ℕ → Option ℕ
 number_of rows name least most = option_and_then (number_in least most) (first_of name rows)
 
--- `verify` with 1 to 16 workers
+-- a flag is given: `clap` writes `false` in the row of one that is not
+abbrev pub is_given : List Row → Text → Bool
+is_given rows name = option_map_or (bytes_eq (codes "true")) (first_of name rows) false
+
+-- `verify` with 1 to 16 workers, the least number of accepted reports, and the wish for the claims
 abbrev pub verify_in : List Row → Option Command
-verify_in rows = option_map Verify (number_of rows (codes "workers") 1 16)
+verify_in rows =
+    option_and_then (λ workers. option_map (λ least. Verify workers least (is_given rows (codes "claims")))
+    (number_of rows (codes "min") 0 4294967295)) (number_of rows (codes "workers") 1 16)
 
 -- `prep` for the party of a number from 0 to 15
 abbrev pub prep_in : List Row → Option Command

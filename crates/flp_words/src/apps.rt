@@ -2,28 +2,52 @@
 ghost use Rattle.std.specs.Prelude.{◌≡◌, IfOk, false};
 ghost use Rattle.clap.specs.Words.{app_of, rule_of};
 ghost use Rattle.clap.specs.declared.builder.command.Command.TheViews.{out-Command as fields_of};
-ghost use Rattle.flp_words.specs.Apps.{required_option, verify_app, prep_app, first_app, flp_app};
+ghost use Rattle.flp_words.specs.Apps.{value_option, required_option, default_option, flag, verify_app, prep_app, first_app, flp_app};
 
 use clap::{Arg, ArgAction, Command};
 use std::alloc::{AllocError, Global};
 
-/// The option `--name`, which has one value and must be given.
+/// The option `--name`, which has one value.
+fn value_option(alloc: Global, name: &str) -> Arg<'_>
+    ensures rule { rule_of result ≡ value_option name.entry.now }
+    ensures local { result.global ≡ false }
+{
+    Arg::new(alloc, name).long(name).action(ArgAction::Set)
+}
+
+/// The option `--name`, which must be given.
 fn required_option(alloc: Global, name: &str) -> Arg<'_>
     ensures rule { rule_of result ≡ required_option name.entry.now }
     ensures local { result.global ≡ false }
 {
-    Arg::new(alloc, name)
-        .long(name)
-        .required(true)
-        .action(ArgAction::Set)
+    value_option(alloc, name).required(true)
 }
 
-/// `verify --workers N`.
+/// The option `--name`, which has this value where it is not given.
+fn default_option<'a>(alloc: Global, name: &'a str, value: &'a str) -> Arg<'a>
+    ensures rule { rule_of result ≡ default_option name.entry.now value.entry.now }
+    ensures local { result.global ≡ false }
+{
+    value_option(alloc, name).default_value(value)
+}
+
+/// The flag `--name`, which has no value.
+fn flag(alloc: Global, name: &str) -> Arg<'_>
+    ensures rule { rule_of result ≡ flag name.entry.now }
+    ensures local { result.global ≡ false }
+{
+    Arg::new(alloc, name).long(name).action(ArgAction::SetTrue)
+}
+
+/// `verify --workers N --min M --claims`.
 fn verify_app<'a>(alloc: Global) -> Result<Command<'a>, AllocError>
     ensures app { IfOk result (λ c. app_of c ≡ verify_app) }
     ensures local { IfOk result (λ c. (fields_of c).has_globals ≡ false) }
 {
-    Command::new(alloc, "verify").arg(required_option(alloc, "workers"))
+    Command::new(alloc, "verify")
+        .arg(required_option(alloc, "workers"))?
+        .arg(default_option(alloc, "min", "0"))?
+        .arg(flag(alloc, "claims"))
 }
 
 /// `prep --party K`.

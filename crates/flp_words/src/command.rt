@@ -1,7 +1,7 @@
 //! Commands, and the one that the words name.
 ghost use Rattle.std.specs.Prelude.{◌≡◌, ◌≢◌, ◌≤◌, IfOk, IfSome, map, option_map, None};
 ghost use Rattle.clap.specs.Words.{first_of, found_of, kind_of, rows_of, subcommand_rows_of};
-ghost use Rattle.flp_words.specs.Command.{IsInRange, command_in, command_at, command_by_name, number_of, verify_in, prep_in};
+ghost use Rattle.flp_words.specs.Command.{IsInRange, command_in, command_at, command_by_name, number_of, is_given, verify_in, prep_in};
 
 use crate::apps::flp_app;
 use crate::number::number_in;
@@ -12,8 +12,15 @@ use std::alloc::{AllocError, Global};
 /// A command with its numbers.
 #[derive(Clone, Copy, Debug, PartialEq, Eq)]
 pub enum Command {
-    /// Verify a batch, with so many workers, from 1 to 16.
-    Verify(u32),
+    /// Verify a batch.
+    Verify {
+        /// How many workers, from 1 to 16.
+        workers: u32,
+        /// How many reports must be accepted at least, that the aggregate is released.
+        least: u32,
+        /// Whether the claims are asked for.
+        claims: bool,
+    },
     /// Make a batch of the measurements of a job file.
     Prove,
     /// Say the lengths of a circuit.
@@ -39,12 +46,23 @@ fn number_of(matches: &ArgMatches<'_>, name: &str, least: u32, most: u32) -> Opt
     number_in(least, most, text_of(matches, name)?)
 }
 
-/// `verify`, with the number of its workers.
+/// Whether a flag is given.
+fn is_given(matches: &ArgMatches<'_>, name: &str) -> bool
+    ensures { result ≡ is_given (rows_of (found_of matches.now)) name.now }
+{
+    text_of(matches, name).is_some_and(|text| text == "true")
+}
+
+/// `verify`, with the number of its workers, the least number of accepted reports, and the wish for the claims.
 fn verify_in(matches: &ArgMatches<'_>) -> Option<Command>
     ensures command { result ≡ verify_in (rows_of (found_of matches.now)) }
     ensures range { IfSome result IsInRange }
 {
-    Some(Command::Verify(number_of(matches, "workers", 1, 16)?))
+    Some(Command::Verify {
+        workers: number_of(matches, "workers", 1, 16)?,
+        least: number_of(matches, "min", 0, u32::MAX)?,
+        claims: is_given(matches, "claims"),
+    })
 }
 
 /// `prep`, with the number of its party.
@@ -92,8 +110,8 @@ fn without_matches(error: &Error) -> Result<Option<Command>, AllocError>
 /// The command that the words name, if they name one. The first of the words is the program's name
 /// and is not looked at.
 ///
-/// A number is one to ten decimal digits, and in the range of its option. Each option stands at
-/// most once. A wish for help is no command.
+/// A number is one to ten decimal digits, and in the range of its option. Each option and each flag
+/// stands at most once. A wish for help is no command.
 ///
 /// # Errors
 /// Want of memory.

@@ -7,11 +7,13 @@
 //!
 //! | words | command |
 //! |---|---|
-//! | `verify --workers N`, N from 1 to 16 | [`Command::Verify`] |
+//! | `verify --workers N --min M --claims`, N from 1 to 16, M from 0 to 4,294,967,295 | [`Command::Verify`] |
 //! | `prove` | [`Command::Prove`] |
 //! | `lengths` | [`Command::Lengths`] |
 //! | `prep --party K`, K from 0 to 15 | [`Command::Prep`] |
 //! | `explain` | [`Command::Explain`] |
+//!
+//! `--workers` and `--party` must be given; M is 0 where `--min` is not, and `--claims` is a flag without a value.
 //!
 //! A further command is one variant of [`Command`], one declaration in `apps.rt` and one line in
 //! `command_by_name`, each with its line in `specs/`.
