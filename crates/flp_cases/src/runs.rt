@@ -1,12 +1,11 @@
 //! Runs of the program, over memory.
 
-use crate::watch::{Counter, Never, is_untold};
-use flp_case_text::{Answer, Case, Failing, Shelf, differences, is_as_wanted, words};
+use crate::watch::{Fixed, Watch, Watched};
+use flp_case_text::{Answer, Case, Failing, Rule, Shelf, differences, is_as_wanted, words};
 use flp_cli::{Policy, run};
 use flp_io::{MemorySink, MemorySource, fill};
+use flp_policy::{CeilingRejected, Floor};
 use std::alloc::{AllocError, Global};
-use std::sync::Arc;
-use std::sync::atomic::AtomicU32;
 use std::thread::Threads;
 
 /// The room of the error output.
@@ -57,24 +56,49 @@ fn left(alloc: Global, case: &Case, input: &mut MemorySource) -> Result<usize, A
     Ok(fill(input, rest.as_mut_slice()).unwrap_or(0))
 }
 
-/// The status where a policy was told or kept, or the gate was passed. The program has none such.
+/// The status where policies or the gate saw what is not due, or there are more policies than may be. The program has none
+/// such.
 const SEEN: u8 = 255;
 
-/// Runs the program, with a policy that never allows, which is to be dropped untold, and a gate that nobody is to pass.
+/// Runs the program, with the policies of the case and behind them one that always allows, and with its gate.
 fn status<R: Threads + Sync>(
     rt: &R,
     alloc: Global,
+    case: &Case,
     words: &[&str],
     input: &mut MemorySource,
     output: &mut MemorySink,
     errors: &mut MemorySink,
 ) -> Result<u8, AllocError> {
-    let gate = Counter::new();
-    let heard = Arc::new(alloc, AtomicU32::new(0))?;
+    let mut watch = Watch::new(alloc, case.meeting);
     let mut policies: Vec<Box<dyn Policy>> = Vec::new(alloc);
-    policies.push(Box::new(alloc, Never::new(heard.clone()?))?)?;
-    let status = run(rt, alloc, words, input, output, errors, &gate, policies);
-    if gate.is_unpassed() && is_untold(&heard) {
+    for rule in &case.policies {
+        let heard = watch.listen(alloc)?;
+        match *rule {
+            Rule::Floor(n) => policies.push(Box::new(alloc, Watched::new(Floor::new(n), heard))?)?,
+            Rule::Ceiling(n) => {
+                let policy = Watched::new(CeilingRejected::new(n), heard);
+                policies.push(Box::new(alloc, policy)?)?;
+            }
+            Rule::Never => policies.push(Box::new(alloc, Watched::new(Fixed(false), heard))?)?,
+        }
+    }
+    let last = Watched::new(Fixed(true), watch.listen(alloc)?);
+    policies.push(Box::new(alloc, last)?)?;
+    if policies.len() >= u32::MAX as usize {
+        return Ok(SEEN);
+    }
+    let status = run(
+        rt,
+        alloc,
+        words,
+        input,
+        output,
+        errors,
+        &watch.gate,
+        policies,
+    );
+    if watch.is_due(words, status, output.taken()) {
         Ok(status)
     } else {
         Ok(SEEN)
@@ -97,6 +121,7 @@ fn answer<R: Threads + Sync>(
     let status = status(
         rt,
         alloc,
+        case,
         words.as_slice(),
         &mut input,
         &mut output,
