@@ -17,13 +17,11 @@ pub struct Heard {
 impl Heard {
     /// Nothing yet.
     pub fn new(alloc: Global) -> Result<Arc<Heard>, AllocError> {
-        Arc::new(
-            alloc,
-            Heard {
-                told: AtomicU64::new(0),
-                asked: AtomicU64::new(0),
-            },
-        )
+        let heard = Heard {
+            told: AtomicU64::new(0),
+            asked: AtomicU64::new(0),
+        };
+        Ok(Arc::new(alloc, heard)?)
     }
 
     /// Whether it was told so many verdicts, and asked so often at most.
