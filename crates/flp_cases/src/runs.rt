@@ -47,6 +47,14 @@ fn errors(alloc: Global, case: &Case) -> Result<MemorySink, AllocError> {
     Ok(sink)
 }
 
+/// What a run reads and writes.
+#[derive(Drop)]
+struct Streams {
+    input: MemorySource,
+    output: MemorySink,
+    errors: MemorySink,
+}
+
 /// How many bytes of the input are unread, where the case says how many are to be.
 fn left(alloc: Global, case: &Case, input: &mut MemorySource) -> Result<usize, AllocError> {
     if case.left.is_none() {
@@ -56,9 +64,38 @@ fn left(alloc: Global, case: &Case, input: &mut MemorySource) -> Result<usize, A
     Ok(fill(input, rest.as_mut_slice()).unwrap_or(0))
 }
 
-/// The status where policies or the gate saw what is not due, or there are more policies than may be. The program has none
-/// such.
+/// The status where policies or the gate saw what is not due to them, or where there are more policies than may be. The
+/// program has none such.
 const SEEN: u8 = 255;
+
+/// Runs the program with these policies, for which this watch counts.
+fn watched_status<R: Threads + Sync>(
+    rt: &R,
+    alloc: Global,
+    words: &[&str],
+    streams: &mut Streams,
+    watch: &Watch,
+    policies: Vec<Box<dyn Policy>>,
+) -> u8 {
+    if policies.len() >= u32::MAX as usize {
+        return SEEN;
+    }
+    let status = run(
+        rt,
+        alloc,
+        words,
+        &mut streams.input,
+        &mut streams.output,
+        &mut streams.errors,
+        &watch.gate,
+        policies,
+    );
+    if watch.is_due(words, status, streams.output.taken()) {
+        status
+    } else {
+        SEEN
+    }
+}
 
 /// Runs the program, with the policies of the case and behind them one that always allows, and with its gate.
 fn status<R: Threads + Sync>(
@@ -66,9 +103,7 @@ fn status<R: Threads + Sync>(
     alloc: Global,
     case: &Case,
     words: &[&str],
-    input: &mut MemorySource,
-    output: &mut MemorySink,
-    errors: &mut MemorySink,
+    streams: &mut Streams,
 ) -> Result<u8, AllocError> {
     let mut watch = Watch::new(alloc, case.meeting);
     let mut policies: Vec<Box<dyn Policy>> = Vec::new(alloc);
@@ -85,24 +120,7 @@ fn status<R: Threads + Sync>(
     }
     let last = Watched::new(Fixed(true), watch.listen(alloc)?);
     policies.push(Box::new(alloc, last)?)?;
-    if policies.len() >= u32::MAX as usize {
-        return Ok(SEEN);
-    }
-    let status = run(
-        rt,
-        alloc,
-        words,
-        input,
-        output,
-        errors,
-        &watch.gate,
-        policies,
-    );
-    if watch.is_due(words, status, output.taken()) {
-        Ok(status)
-    } else {
-        Ok(SEEN)
-    }
+    Ok(watched_status(rt, alloc, words, streams, &watch, policies))
 }
 
 /// Runs the program once.
@@ -114,24 +132,18 @@ fn answer<R: Threads + Sync>(
     step: usize,
     call: u64,
 ) -> Result<Answer, AllocError> {
-    let mut input = source(alloc, case, step, call)?;
-    let mut output = sink(alloc, case, call)?;
-    let mut errors = errors(alloc, case)?;
+    let mut streams = Streams {
+        input: source(alloc, case, step, call)?,
+        output: sink(alloc, case, call)?,
+        errors: errors(alloc, case)?,
+    };
     let words = words(alloc, command)?;
-    let status = status(
-        rt,
-        alloc,
-        case,
-        words.as_slice(),
-        &mut input,
-        &mut output,
-        &mut errors,
-    )?;
-    let left = left(alloc, case, &mut input)?;
+    let status = status(rt, alloc, case, words.as_slice(), &mut streams)?;
+    let left = left(alloc, case, &mut streams.input)?;
     Ok(Answer {
         status,
-        output: output.into_bytes(),
-        says: errors.into_bytes(),
+        output: streams.output.into_bytes(),
+        says: streams.errors.into_bytes(),
         left,
     })
 }
