@@ -1,10 +1,12 @@
 //! Lines that make bytes.
 
 use crate::numbers::{
-    hexadecimal, number, push_nonce, push_number, push_numbers, push_times, push_words, size, small,
+    hexadecimal, number, numbered_nonce, push_nonce, push_number, push_numbers, push_times,
+    push_words, size, small,
 };
 use crate::{Fault, Shelf};
 use std::alloc::Global;
+use std::ops::Range;
 
 /// A line's first word, and what follows the blank behind it.
 pub(crate) fn parts(line: &str) -> (&str, &str) {
@@ -49,10 +51,47 @@ fn push_report(alloc: Global, bytes: &mut Vec<u8>, rest: &str) -> Result<(), Fau
     let (first, text) = parts(rest);
     let mut nonce = Vec::new(alloc);
     push_nonce(&mut nonce, small(first)?)?;
-    let digits = hex::encode(alloc, nonce.as_slice())?;
+    push_report_line(alloc, bytes, nonce.as_slice(), text)
+}
+
+/// The line of the report with this nonce.
+fn push_report_line(
+    alloc: Global,
+    bytes: &mut Vec<u8>,
+    nonce: &[u8],
+    text: &str,
+) -> Result<(), Fault> {
+    let digits = hex::encode(alloc, nonce)?;
     bytes.extend_from_slice(digits.as_bytes())?;
     bytes.push(b' ')?;
     push_line(bytes, text)
+}
+
+/// `FROM TO REST`: the numbers of a range, and the rest.
+fn range(text: &str) -> Result<(Range<u64>, &str), Fault> {
+    let (from, rest) = parts(text);
+    let (to, rest) = parts(rest);
+    Ok((number(from)?..number(to)?, rest))
+}
+
+/// `records FROM TO NAME`: for each number the nonce that it is, and the bytes of that name.
+fn push_records(bytes: &mut Vec<u8>, shelf: &Shelf, rest: &str) -> Result<(), Fault> {
+    let (numbers, name) = range(rest)?;
+    let words = shelf.found(name)?;
+    for number in numbers {
+        push_times(bytes, 1, &numbered_nonce(number))?;
+        push_times(bytes, 1, words)?;
+    }
+    Ok(())
+}
+
+/// `reports FROM TO TEXT`: the lines of the reports whose nonces are these numbers.
+fn push_reports(alloc: Global, bytes: &mut Vec<u8>, rest: &str) -> Result<(), Fault> {
+    let (numbers, text) = range(rest)?;
+    for number in numbers {
+        push_report_line(alloc, bytes, &numbered_nonce(number), text)?;
+    }
+    Ok(())
 }
 
 /// The names of the lines that `lengths` prints.
@@ -147,6 +186,8 @@ pub(crate) fn make(
         "length" => push_number(bytes, shelf.found(rest)?.len() as u64),
         "head" => push_head(bytes, shelf, rest),
         "report" => push_report(alloc, bytes, rest),
+        "records" => push_records(bytes, shelf, rest),
+        "reports" => push_reports(alloc, bytes, rest),
         "lengths" => push_lengths(bytes, rest),
         "cut" => {
             bytes.truncate(size(rest)?);

@@ -2,9 +2,9 @@
 ghost use Rattle.std.specs.Prelude.{◌≡◌, take};
 ghost use Rattle.flp_case_text.specs.Wanted.{wanted_output};
 
-use crate::Fault;
 use crate::bytes::parts;
-use crate::numbers::{number, size};
+use crate::numbers::{number, size, small};
+use crate::{Fault, Rule};
 use std::alloc::{AllocError, Global};
 
 /// Which calls fail.
@@ -41,6 +41,10 @@ pub struct Case {
     pub in_turn: bool,
     /// Whether each write on the error output fails.
     pub errors_fail: bool,
+    /// The policies that are handed in.
+    pub policies: Vec<Rule>,
+    /// How many workers meet at the gate; where it is 0, none waits there.
+    pub meeting: u8,
     /// The exit status.
     pub status: u8,
     /// What is written to the error output.
@@ -72,6 +76,8 @@ impl Case {
             runs: 1,
             in_turn: false,
             errors_fail: false,
+            policies: Vec::new(alloc),
+            meeting: 0,
             status: 0,
             says: Vec::new(alloc),
             output: Vec::new(alloc),
@@ -139,7 +145,7 @@ impl Case {
         }
     }
 
-    /// A setting of the run: command lines, steps and failures. Whether the line is one.
+    /// A setting of the run: command lines, steps, failures, policies and the gate. Whether the line is one.
     pub(crate) fn set(&mut self, alloc: Global, line: &str) -> Result<bool, Fault> {
         let (key, rest) = parts(line);
         match key {
@@ -147,6 +153,8 @@ impl Case {
             "reads" => self.set_read_steps(rest)?,
             "writes" => self.write_step = size(rest)?,
             "fail" => self.set_failing(rest)?,
+            "policy" => self.policies.push(Rule::read(rest)?)?,
+            "meet" => self.meeting = small(rest)?,
             "left" => self.left = Some(size(rest)?),
             "any" => self.any_output = true,
             _ => return Ok(false),

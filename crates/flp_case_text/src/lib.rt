@@ -10,6 +10,7 @@
 //! | `shelf` | bytes by their names |
 //! | `numbers` | numbers, words of the field and bytes, as they are written |
 //! | `bytes` | lines that make bytes |
+//! | `rule` | policies that are handed in |
 //! | `case` | cases, and the failures of their reads and writes |
 //! | `block` | blocks |
 //! | `tables` | blocks that have a case a line |
@@ -22,6 +23,7 @@ mod bytes;
 mod case;
 mod fault;
 mod numbers;
+mod rule;
 mod shelf;
 mod tables;
 
@@ -29,4 +31,5 @@ pub use answer::{Answer, differences, is_as_wanted};
 pub use block::read_block;
 pub use case::{Case, Failing, words};
 pub use fault::Fault;
+pub use rule::Rule;
 pub use shelf::Shelf;

@@ -103,3 +103,8 @@ pub(crate) fn push_nonce(bytes: &mut Vec<u8>, number: u8) -> Result<(), Fault> {
     bytes.extend_from_slice(&[1, 2, 3, 4, 5, 6, 7, 8, 9, 10, 11, 12, 13, 14, 15])?;
     Ok(())
 }
+
+/// The nonce that is this number, the lowest byte first.
+pub(crate) fn numbered_nonce(number: u64) -> [u8; 16] {
+    u128::from(number).to_le_bytes()
+}

@@ -1,12 +1,11 @@
 //! Runs of the program, over memory.
 
-use crate::watch::{Counter, Never, is_untold};
-use flp_case_text::{Answer, Case, Failing, Shelf, differences, is_as_wanted, words};
+use crate::watch::{Fixed, Watch, Watched};
+use flp_case_text::{Answer, Case, Failing, Rule, Shelf, differences, is_as_wanted, words};
 use flp_cli::{Policy, run};
 use flp_io::{MemorySink, MemorySource, fill};
+use flp_policy::{CeilingRejected, Floor};
 use std::alloc::{AllocError, Global};
-use std::sync::Arc;
-use std::sync::atomic::AtomicU32;
 use std::thread::Threads;
 
 /// The room of the error output.
@@ -48,6 +47,14 @@ fn errors(alloc: Global, case: &Case) -> Result<MemorySink, AllocError> {
     Ok(sink)
 }
 
+/// What a run reads and writes.
+#[derive(Drop)]
+struct Streams {
+    input: MemorySource,
+    output: MemorySink,
+    errors: MemorySink,
+}
+
 /// How many bytes of the input are unread, where the case says how many are to be.
 fn left(alloc: Global, case: &Case, input: &mut MemorySource) -> Result<usize, AllocError> {
     if case.left.is_none() {
@@ -57,28 +64,63 @@ fn left(alloc: Global, case: &Case, input: &mut MemorySource) -> Result<usize, A
     Ok(fill(input, rest.as_mut_slice()).unwrap_or(0))
 }
 
-/// The status where a policy was told or kept, or the gate was passed. The program has none such.
+/// The status where policies or the gate saw what is not due to them, or where there are more policies than may be. The
+/// program has none such.
 const SEEN: u8 = 255;
 
-/// Runs the program, with a policy that never allows, which is to be dropped untold, and a gate that nobody is to pass.
-fn status<R: Threads + Sync>(
+/// Runs the program with these policies, for which this watch counts.
+fn watched_status<R: Threads + Sync>(
     rt: &R,
     alloc: Global,
     words: &[&str],
-    input: &mut MemorySource,
-    output: &mut MemorySink,
-    errors: &mut MemorySink,
-) -> Result<u8, AllocError> {
-    let gate = Counter::new();
-    let heard = Arc::new(alloc, AtomicU32::new(0))?;
-    let mut policies: Vec<Box<dyn Policy>> = Vec::new(alloc);
-    policies.push(Box::new(alloc, Never::new(heard.clone()?))?)?;
-    let status = run(rt, alloc, words, input, output, errors, &gate, policies);
-    if gate.is_unpassed() && is_untold(&heard) {
-        Ok(status)
-    } else {
-        Ok(SEEN)
+    streams: &mut Streams,
+    watch: &Watch,
+    policies: Vec<Box<dyn Policy>>,
+) -> u8 {
+    if policies.len() >= u32::MAX as usize {
+        return SEEN;
     }
+    let status = run(
+        rt,
+        alloc,
+        words,
+        &mut streams.input,
+        &mut streams.output,
+        &mut streams.errors,
+        &watch.gate,
+        policies,
+    );
+    if watch.is_due(words, status, streams.output.taken()) {
+        status
+    } else {
+        SEEN
+    }
+}
+
+/// Runs the program, with the policies of the case and behind them one that always allows, and with its gate.
+fn status<R: Threads + Sync>(
+    rt: &R,
+    alloc: Global,
+    case: &Case,
+    words: &[&str],
+    streams: &mut Streams,
+) -> Result<u8, AllocError> {
+    let mut watch = Watch::new(alloc, case.meeting);
+    let mut policies: Vec<Box<dyn Policy>> = Vec::new(alloc);
+    for rule in &case.policies {
+        let heard = watch.listen(alloc)?;
+        match *rule {
+            Rule::Floor(n) => policies.push(Box::new(alloc, Watched::new(Floor::new(n), heard))?)?,
+            Rule::Ceiling(n) => {
+                let policy = Watched::new(CeilingRejected::new(n), heard);
+                policies.push(Box::new(alloc, policy)?)?;
+            }
+            Rule::Never => policies.push(Box::new(alloc, Watched::new(Fixed(false), heard))?)?,
+        }
+    }
+    let last = Watched::new(Fixed(true), watch.listen(alloc)?);
+    policies.push(Box::new(alloc, last)?)?;
+    Ok(watched_status(rt, alloc, words, streams, &watch, policies))
 }
 
 /// Runs the program once.
@@ -90,23 +132,18 @@ fn answer<R: Threads + Sync>(
     step: usize,
     call: u64,
 ) -> Result<Answer, AllocError> {
-    let mut input = source(alloc, case, step, call)?;
-    let mut output = sink(alloc, case, call)?;
-    let mut errors = errors(alloc, case)?;
+    let mut streams = Streams {
+        input: source(alloc, case, step, call)?,
+        output: sink(alloc, case, call)?,
+        errors: errors(alloc, case)?,
+    };
     let words = words(alloc, command)?;
-    let status = status(
-        rt,
-        alloc,
-        words.as_slice(),
-        &mut input,
-        &mut output,
-        &mut errors,
-    )?;
-    let left = left(alloc, case, &mut input)?;
+    let status = status(rt, alloc, case, words.as_slice(), &mut streams)?;
+    let left = left(alloc, case, &mut streams.input)?;
     Ok(Answer {
         status,
-        output: output.into_bytes(),
-        says: errors.into_bytes(),
+        output: streams.output.into_bytes(),
+        says: streams.errors.into_bytes(),
         left,
     })
 }

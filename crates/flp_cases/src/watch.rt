@@ -1,79 +1,221 @@
-//! A policy and a gate that count who comes to them.
+//! Policies and a gate that count who comes to them.
 
 use flp_cli::{Gate, Policy, Verdict};
 use std::alloc::{AllocError, Global};
 use std::sync::Arc;
-use std::sync::atomic::{AtomicU32, Ordering};
+use std::sync::atomic::Ordering::SeqCst;
+use std::sync::atomic::{AtomicU32, AtomicU64};
+use std::thread;
 
-/// A policy that never allows, and counts what it is told and asked.
+/// What a policy was told and asked.
 #[derive(Drop)]
-pub struct Never {
-    heard: Arc<AtomicU32>,
+pub struct Heard {
+    told: AtomicU64,
+    asked: AtomicU64,
 }
 
-impl Never {
-    /// A policy that counts so.
-    pub fn new(heard: Arc<AtomicU32>) -> Never {
-        Never { heard }
+impl Heard {
+    /// Nothing yet.
+    pub fn new(alloc: Global) -> Result<Arc<Heard>, AllocError> {
+        let heard = Heard {
+            told: AtomicU64::new(0),
+            asked: AtomicU64::new(0),
+        };
+        Ok(Arc::new(alloc, heard)?)
+    }
+
+    /// Whether it was told so many verdicts, and asked so often at most.
+    fn is(&self, told: u64, asked: u64) -> bool {
+        self.told.load(SeqCst) == told && self.asked.load(SeqCst) <= asked
     }
 }
 
-impl Policy for Never {
-    ghost use Rattle.std.specs.Prelude.{false};
+/// A policy, of which is counted what it is told and asked.
+#[derive(Drop)]
+pub struct Watched<P> {
+    policy: P,
+    heard: Arc<Heard>,
+}
 
-    ghost would = { λ _ _ _. false };
+impl<P> Watched<P> {
+    /// The policy, which is counted there.
+    pub fn new(policy: P, heard: Arc<Heard>) -> Watched<P> {
+        Watched { policy, heard }
+    }
+}
+
+impl<P: Policy> Policy for Watched<P> {
+    ghost would = { λ watched. P.would watched.policy };
+
+    fn tell(&mut self, bucket: u32, verdict: Verdict) {
+        self.heard.told.fetch_add(1, SeqCst);
+        self.policy.tell(bucket, verdict);
+    }
+
+    fn release(&self, bucket: u32) -> bool {
+        self.heard.asked.fetch_add(1, SeqCst);
+        self.policy.release(bucket)
+    }
+}
+
+/// A policy that allows always or never.
+#[derive(Drop)]
+pub struct Fixed(pub bool);
+
+impl Policy for Fixed {
+    ghost would = { λ policy _ _. policy.0 };
 
     fn tell(&mut self, bucket: u32, verdict: Verdict) {
         let _told = (bucket, verdict);
-        self.heard.fetch_add(1, Ordering::SeqCst);
     }
 
     fn release(&self, bucket: u32) -> bool {
         let _bucket = bucket;
-        self.heard.fetch_add(1, Ordering::SeqCst);
-        false
+        self.0
     }
 }
 
-/// A gate that counts who passes.
+/// A gate at which so many workers wait until all of them have come.
 #[derive(Drop)]
-pub struct Counter {
-    entered: AtomicU32,
+pub struct Meeting {
+    workers: u8,
+    // a bit for each worker
+    came: AtomicU32,
+    // how many waited in vain
+    alone: AtomicU32,
 }
 
-impl Counter {
-    /// A gate that nobody passed.
-    pub fn new() -> Counter {
-        Counter {
-            entered: AtomicU32::new(0),
+/// For how many turns a worker waits.
+const TURNS: u32 = 100_000_000;
+
+impl Meeting {
+    /// A gate to which nobody came.
+    pub fn new(workers: u8) -> Meeting {
+        Meeting {
+            workers,
+            came: AtomicU32::new(0),
+            alone: AtomicU32::new(0),
         }
     }
 
-    /// Whether nobody passed.
-    pub fn is_unpassed(&self) -> bool {
-        self.entered.load(Ordering::SeqCst) == 0
+    /// Whether each of the workers came.
+    fn has_all(&self) -> bool {
+        let came = self.came.load(SeqCst);
+        (0..u32::from(self.workers)).all(|worker| came & bit(worker) != 0)
+    }
+
+    /// Waits for a time until all have come.
+    fn wait(&self) -> bool {
+        for _ in 0..TURNS {
+            if self.has_all() {
+                return true;
+            }
+            thread::yield_now();
+        }
+        false
+    }
+
+    /// Whether nobody came.
+    fn is_unpassed(&self) -> bool {
+        self.came.load(SeqCst) == 0
+    }
+
+    /// Whether all have met, and nobody waited in vain.
+    fn is_met(&self) -> bool {
+        self.has_all() && self.alone.load(SeqCst) == 0
     }
 }
 
-impl Gate for Counter {
+/// The bit of a worker.
+fn bit(worker: u32) -> u32 {
+    1u32.wrapping_shl(worker)
+}
+
+impl Gate for Meeting {
     fn enter(&self, worker: u32) {
-        let _worker = worker;
-        self.entered.fetch_add(1, Ordering::SeqCst);
+        self.came.fetch_or(bit(worker), SeqCst);
+        if !self.wait() {
+            self.alone.fetch_add(1, SeqCst);
+        }
     }
 }
 
-/// Whether the policy was dropped, and counted nothing.
-pub fn is_untold(heard: &Arc<AtomicU32>) -> bool {
-    heard.load(Ordering::SeqCst) == 0 && Arc::strong_count(heard) == 1
+/// What the policies and the gate of a run count.
+#[derive(Drop)]
+pub struct Watch {
+    /// The gate.
+    pub gate: Meeting,
+    heard: Vec<Arc<Heard>>,
 }
 
-/// Whether a policy that is told and asked is heard twice, and who passes a gate is seen.
+/// The status where the words are no command.
+const USAGE: u8 = 2;
+
+/// The status where policies withhold the aggregate.
+const WITHHELD: u8 = 9;
+
+impl Watch {
+    /// No policy, and a gate at which so many workers meet.
+    pub fn new(alloc: Global, workers: u8) -> Watch {
+        Watch {
+            gate: Meeting::new(workers),
+            heard: Vec::new(alloc),
+        }
+    }
+
+    /// Counts for one policy more.
+    pub fn listen(&mut self, alloc: Global) -> Result<Arc<Heard>, AllocError> {
+        let heard = Heard::new(alloc)?;
+        self.heard.push(heard.clone()?)?;
+        Ok(heard)
+    }
+
+    /// Whether each policy was told so many verdicts, and asked so often at most.
+    fn has_heard(&self, told: u64, asked: u64) -> bool {
+        self.heard.iter().all(|heard| heard.is(told, asked))
+    }
+
+    /// Whether no policy is kept.
+    fn is_alone(&self) -> bool {
+        self.heard.iter().all(|heard| Arc::strong_count(heard) == 1)
+    }
+
+    /// Whether what was counted is due to a run on these words that ended so.
+    ///
+    /// No policy is kept. `verify` alone tells and asks them and passes the gate, at which the workers meet; where it
+    /// ends well, it tells each policy as many verdicts as it writes lines of reports, and asks it once at most.
+    pub fn is_due(&self, words: &[&str], status: u8, output: &[u8]) -> bool {
+        if !self.is_alone() {
+            return false;
+        }
+        if status == USAGE || words.get(1).copied() != Some("verify") {
+            return self.has_heard(0, 0) && self.gate.is_unpassed();
+        }
+        let ends_well = status == 0 || status == WITHHELD;
+        self.gate.is_met() && (!ends_well || self.has_heard(verdicts(output), 1))
+    }
+}
+
+/// How many lines stand in front of the one with the number of accepted reports.
+fn verdicts(output: &[u8]) -> u64 {
+    let mut count = 0u64;
+    for line in output.split(|byte| *byte == b'\n') {
+        if line.starts_with(b"count ") {
+            break;
+        }
+        count = count.saturating_add(1);
+    }
+    count
+}
+
+/// Whether it is seen where a policy is kept, told or asked, or the gate is passed.
 pub fn is_watchful(alloc: Global) -> Result<bool, AllocError> {
-    let heard = Arc::new(alloc, AtomicU32::new(0))?;
-    let mut policy = Never::new(heard.clone()?);
+    let mut watch = Watch::new(alloc, 0);
+    let mut policy = Watched::new(Fixed(true), watch.listen(alloc)?);
     policy.tell(0, Verdict::Accepted);
+    let told = watch.has_heard(1, 0) && !watch.has_heard(0, 0);
     let allows = policy.release(0);
-    let gate = Counter::new();
-    gate.enter(0);
-    Ok(heard.load(Ordering::SeqCst) == 2 && !allows && !gate.is_unpassed())
+    let asked = watch.has_heard(1, 1) && !watch.has_heard(1, 0);
+    watch.gate.enter(0);
+    Ok(told && allows && asked && !watch.is_alone() && !watch.gate.is_unpassed())
 }

@@ -30,4 +30,6 @@ mod query;
 #[cfg(test)]
 mod share;
 #[cfg(test)]
+mod verify;
+#[cfg(test)]
 mod words;
