@@ -18,3 +18,6 @@ pub mod RunLemmas
 pub mod SettledLemmas
 -- from all records to the whole batch
 pub mod WholeLemmas
+mod ReleasedLemmas
+-- what follows of a result
+pub mod ResultLemmas

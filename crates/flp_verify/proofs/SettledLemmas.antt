@@ -30,7 +30,7 @@ use Rattle.flp_verify.specs.Told.{AreTold, beside}
 use Rattle.flp_verify.proofs.LineLemmas.{beside-is}
 use Rattle.flp_verify.proofs.MarkLemmas.{knows-more, verdicts-marked}
 use Rattle.flp_verify.proofs.RunLemmas.{takes-more}
-use Rattle.flp_verify.proofs.TellingLemmas.{AreTold-append}
+use Rattle.flp_verify.proofs.TellingLemmas.{told-none, told-after}
 use Rattle.flp_verify.proofs.TextLemmas.{lines_from-judged}
 use Rattle.flp_verify.proofs.TotalLemmas.{reports-judged}
 
@@ -74,8 +74,8 @@ pub behind-none : EmptyRuns → (front : Front) (start : Standing) → start.cou
 behind-none empty front start none = record {
   known = refl;
   counts = none;
-  floor = λ more of. refl;
-  answers = λ more of. refl;
+  floor = told-none;
+  answers = told-none;
   view = empty (row_in (setting_with front start.known) []) 0 start.view;
 }
 
@@ -92,8 +92,8 @@ behind-more join front start old new earlier records single other p step =
     record {
       known = step.known ∙ (ap (λ (k : List (List ℕ)). with_nonces k (map nonce_in records)) p.known ∙ sym (knows-more start.known earlier records));
       counts = step.counts (verdicts_from front start earlier) p.counts ∙ ap counts_of whole;
-      floor = subst (λ (l : List Verdict). AreTold 0 l start.floor new.floor) whole (AreTold-append 0 (verdicts_from front start earlier) vs start.floor old.floor new.floor p.floor step.floor);
-      answers = subst (λ (l : List Verdict). AreTold 0 l start.answers new.answers) whole (AreTold-append 0 (verdicts_from front start earlier) vs start.answers old.answers new.answers p.answers step.answers);
+      floor = subst (λ (l : List Verdict). AreTold 0 l start.floor new.floor) whole (told-after p.floor step.floor);
+      answers = subst (λ (l : List Verdict). AreTold 0 l start.answers new.answers) whole (told-after p.answers step.answers);
       view = subst (λ (n : ℕ). TakesRange (row_in by (earlier ++ records)) 0 n start.view new.view) (sym (length-append earlier records))
           (takes-more join by single other earlier records start.view old.view new.view p.view rows);
     }

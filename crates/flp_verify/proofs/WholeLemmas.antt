@@ -1,5 +1,5 @@
 -- From what is kept behind all records to what is known of the whole batch.
-use Rattle.std.proofs.Common.{◌≡◌, ℕ, List, ◌∷◌, ◌++◌, not, Option, None, Result, Ok, Err, refl, sym, ap, subst, ◌∙◌, arith}
+use Rattle.std.proofs.Common.{◌≡◌, ℕ, List, ◌∷◌, ◌++◌, length, not, Option, None, Result, Ok, Err, refl, sym, ap, subst, ◌∙◌, arith}
 use Rattle.std.specs.Prelude.{position}
 use Rattle.std.specs.List.{concat}
 use Rattle.std.specs.Io.KnownBytes.{Appends, Keeps, IsAtEnd}
@@ -47,12 +47,12 @@ pub IsCounted-behind : (front : Front) (least : ℕ) (start now : Standing) (rec
 IsCounted-behind front least start now records counted s p numbers known end outs view =
     let by = setting_with front start.known in
     let vs = verdicts_from front start records in
-    let taken = subst (λ (v : View). TakesRange (row_in by records) 0 _ (seen_by front None) v) (sym view) (subst (λ (v : View). TakesRange (row_in by records) 0 _ v now.view) s.view p.view) in
+    let taken = subst (λ (v : View). TakesRange (row_in by records) 0 (length records) (seen_by front None) v) (sym view) (subst (λ (v : View). TakesRange (row_in by records) 0 (length records) v now.view) s.view p.view) in
     let seat = seat-counted by records front.workers front.header.reports front.shape.outs counted.seat.view taken in
     record {
       numbers = numbers ∙ p.counts;
       known = known ∙ p.known;
-      end = end ∙ floor-asked least vs start.floor now.floor start.answers now.answers s.floor p.floor p.answers;
+      end = end ∙ floor-asked {vs = vs} {fresh = start.floor} {floor = now.floor} {would = start.answers} {asked = now.answers} least s.floor p.floor p.answers;
       outs = outs;
       once = seat.0;
       rows = seat.1;

@@ -1,10 +1,11 @@
 -- What the calls of this crate answer of a whole batch, by the bytes that they read and wrote.
-use Rattle.std.specs.Prelude.{ℕ, ◌≡◌, List, All, Bool, Option, None, length}
+use Rattle.std.specs.Prelude.{ℕ, ◌≡◌, List, All, Bool, Option, None, Result, Ok, Err, length}
 use Rattle.std.specs.List.{concat}
 use Rattle.std.specs.Io.KnownBytes.{Consumes, Appends, IsAtEnd}
 use Rattle.flp_syntax.specs.declared.syntax.Params.{Params}
 use Rattle.flp_report.specs.Batch.{whole_records}
 use Rattle.flp_report.specs.Shape.{bytes_of}
+use Rattle.flp_batch.specs.declared.fault.EngineFault.{EngineFault}
 use Rattle.flp_batch.specs.declared.front.Opened.{Opened}
 use Rattle.flp_batch.specs.Format.{newest_read}
 use Rattle.flp_batch.specs.File.{IsBatch}
@@ -14,6 +15,7 @@ use Rattle.flp_batch.specs.Setting.{Setting}
 use Rattle.flp_verdict.specs.Release.{Answers}
 use Rattle.flp_verify.specs.declared.counted.Counted.{Counted}
 use Rattle.flp_verify.specs.declared.counted.End.{End}
+use Rattle.flp_verify.specs.declared.counted.Summary.{Summary}
 use Rattle.flp_verify.specs.Counted.{withheld_by}
 use Rattle.flp_verify.specs.Laws.{IsCounted}
 use Rattle.flp_verify.specs.Text.{verdicts_by, verdict_lines, refused_by, released_by}
@@ -62,3 +64,8 @@ pub record Releases (least : ℕ) (would : Answers) (claims : Bool) (end : End) 
   pub is_batch : IsBatch None bytes params setting
   pub end_is : withheld_by end ≡ refused_by least would setting (records_on bytes setting)
   pub written : Appends taken taken' (text_on None (released_by least would claims) bytes setting)
+
+-- how it ended, where what follows its lines was written
+abbrev pub with_end : End → Result Summary EngineFault → Result End EngineFault
+with_end end (Ok summary) = Ok end
+with_end end (Err fault) = Err fault

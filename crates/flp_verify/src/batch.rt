@@ -1,11 +1,13 @@
 //! A batch that is verified, from its bytes to what is known of it.
-ghost use Rattle.std.specs.Prelude.{◌≡◌, ◌≤◌, ◌<◌, ◌^◌, ◌-◌, ℕ, List, Option, None, Err, IfOk, IfErr, IfSome, OnOk, OnErr, length, map};
+ghost use Rattle.std.specs.Prelude.{◌≡◌, ◌+◌, ◌≤◌, ◌<◌, ◌^◌, ◌-◌, ℕ, List, Option, None, Err, IfOk, IfErr, IfSome, OnOk, OnErr, length, map};
 ghost use Rattle.std.specs.Io.KnownBytes.{Keeps};
 ghost use Rattle.flp_io.specs.Reads.{ConsumesAtMost};
+ghost use Rattle.flp_report.specs.Nonces.{nonces_in};
 ghost use Rattle.flp_report.specs.Reader.{source_of, SameLoan, place_of};
 ghost use Rattle.flp_batch.specs.Ends.{Ends};
 ghost use Rattle.flp_batch.specs.Fault.{IsOfFront, IsOfInput};
 ghost use Rattle.flp_batch.specs.File.{IsFault, TakesFew};
+ghost use Rattle.flp_batch.specs.Front.{IsAtRecords};
 ghost use Rattle.flp_batch.specs.Format.{batches};
 ghost use Rattle.flp_batch.specs.Opened.{IsOpened, IsReady, IsRecordsFault, records_size, setting_of};
 ghost use Rattle.flp_batch.specs.Reply.{StopsEarly, SettlesEarly};
@@ -13,7 +15,7 @@ ghost use Rattle.flp_batch.specs.Walk.{Breaks};
 ghost use Rattle.flp_verify.specs.Counted.{withheld_by};
 ghost use Rattle.flp_verify.specs.Laws.{IsCounted};
 ghost use Rattle.flp_verify.specs.Reply.{Counts, CountsRecords};
-ghost use Rattle.flp_verify.specs.Settled.{Standing, IsBoardFor, IsStart, IsBehind, setting_with, standing};
+ghost use Rattle.flp_verify.specs.Settled.{IsBehind, IsBoardFor, IsStart, Standing, opened_with, setting_with, standing};
 ghost use Rattle.flp_verify.specs.Text.{verdict_line, verdict_lines};
 
 use crate::Memory;
@@ -27,7 +29,7 @@ use flp_batch::{EngineFault, Opened, open};
 use flp_io::{Sink, Source};
 use flp_policy::{Floor, Policy};
 use flp_pool::Gate;
-use flp_report::BatchReader;
+use flp_report::{BatchReader, Nonces};
 use std::alloc::Global;
 use std::thread::Threads;
 
@@ -110,10 +112,47 @@ fn verify_opened<R: Threads + Sync, S: Source, K: Sink, G: Gate>(
         shape,
         workers,
     };
+    verify_behind(
+        rt, alloc, reader, front, claims, output, least, gate, policies,
+    )
+}
+
+/// Verifies the records behind what stands in front of them and these old claims.
+fn verify_behind<R: Threads + Sync, S: Source, K: Sink, G: Gate>(
+    rt: &R,
+    alloc: Global,
+    reader: &mut BatchReader<'_, S>,
+    front: Front,
+    claims: Nonces,
+    output: &mut K,
+    least: u64,
+    gate: &G,
+    policies: &mut [Box<dyn Policy>],
+) -> Result<Counted, EngineFault>
+    requires ready { IsAtRecords reader.old front.header front.shape }
+    requires streams { S.ready (source_of reader.old) × K.ready output.old }
+    requires few { length policies.old < 2 ^ 32 - 1 }
+    ensures same { SameLoan reader.old reader.new }
+    ensures done { IfOk result (λ counted. CountsRecords (opened_with front claims) least (λ more of. map (λ p. would p more of) policies.old) (λ more of. map (λ p. would p more of) policies.new) counted
+        (S.left (source_of reader.old)) (S.left (source_of reader.new)) (K.taken output.old) (K.taken output.new)) }
+    ensures writable { OnOk result (K.ready output.new) }
+    ensures breaks { IfErr result (λ fault. Breaks fault front.shape front.header.reports (verdict_line (setting_with front (nonces_in claims)))
+        (S.left (source_of reader.old)) (S.left (source_of reader.new)) (K.taken output.old) (K.taken output.new)) }
+    ensures ends { Ends (IsRecordsFault (opened_with front claims)) (ConsumesAtMost (records_size (opened_with front claims) + 1)) (S.left (source_of reader.old)) (S.left (source_of reader.new))
+        (S.faults (source_of reader.old)) (S.faults (source_of reader.new)) (K.faults output.old) (K.faults output.new) result }
+{
     let mut room = Room::new(alloc, &front)?;
     let mut ledger = Ledger::new(alloc, claims, least);
     if let Err(fault) = verify_records(
-        rt, alloc, reader, &front, &mut room, &mut ledger, output, gate, policies,
+        rt,
+        alloc,
+        reader,
+        &front,
+        &mut room,
+        &mut ledger,
+        output,
+        gate,
+        policies,
     ) {
         return Err(fault);
     }
@@ -193,6 +232,13 @@ pub fn verify_batch<R: Threads + Sync, S: Source, K: Sink, G: Gate>(
 {
     let mut reader = BatchReader::new(input);
     verify_file(
-        rt, alloc, &mut reader, output, workers, least, gate, policies,
+        rt,
+        alloc,
+        &mut reader,
+        output,
+        workers,
+        least,
+        gate,
+        policies,
     )
 }

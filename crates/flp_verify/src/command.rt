@@ -6,12 +6,12 @@ ghost use Rattle.flp_batch.specs.Fault.{IsOfFront, IsOfInput};
 ghost use Rattle.flp_batch.specs.File.{IsFault, TakesFew};
 ghost use Rattle.flp_batch.specs.Format.{batches};
 ghost use Rattle.flp_batch.specs.Reply.{StopsEarly, StopsInText, SettlesEarly};
-ghost use Rattle.flp_verify.specs.Reply.{Releases};
+ghost use Rattle.flp_verify.specs.Reply.{Releases, with_end};
 ghost use Rattle.flp_verify.specs.Text.{verdict_lines, released_by};
 
 use crate::batch::verify_batch;
 use crate::closing::finish;
-use crate::counted::End;
+use crate::counted::{End, Summary};
 use flp_batch::EngineFault;
 use flp_io::{Sink, Source};
 use flp_policy::Policy;
@@ -56,7 +56,15 @@ pub fn verify<R: Threads + Sync, S: Source, K: Sink, G: Gate>(
         Err(fault) => return Err(fault),
     };
     let end = counted.end;
-    match finish(alloc, counted, output, claims) {
+    let finished = finish(alloc, counted, output, claims);
+    end_with(end, finished)
+}
+
+/// How a batch ended whose ending was written, or why it was not.
+fn end_with(end: End, finished: Result<Summary, EngineFault>) -> Result<End, EngineFault>
+    ensures { result ≡ with_end end finished }
+{
+    match finished {
         Ok(_) => Ok(end),
         Err(fault) => Err(fault),
     }

@@ -1,5 +1,6 @@
-use Rattle.std.proofs.Common.{rules, ◌≡◌, ◌+◌, ◌++◌, ℕ, Bool, List, length, map, take, get_or, sym, ap, subst, ◌∙◌}
+use Rattle.std.proofs.Common.{rules, ◌≡◌, ◌+◌, ◌++◌, ℕ, Bool, List, length, map, take, get_or, sym, ap, subst, ◌∙◌, arith}
 use Rattle.std.specs.Prelude.{nat_le}
+use Rattle.std.proofs.lemmas.List.{with_items_is}
 use Rattle.flp_io.proofs.WriteLemmas.{TakesPrefix-refl}
 use Rattle.flp_report.specs.Segment.{used_in, records_in}
 use Rattle.flp_report.proofs.SegmentLemmas.{IsCut-held}
@@ -33,7 +34,9 @@ tell_segment-requires-clause-count g c =
     let front = c.args.front.now in
     let records = records_in c.args.room.now.segment in
     let known = known_in c.args.ledger.now.known in
-    let lent : c.deref.result.now ≡ c.mark.new.marks = search rules in
+    let long = ap length c.deref_mut.ensures.value in
+    let whole : length c.mark.new.marks ≡ c.args.room.now.marks.len = omega (arith, c.in_ok-mark.ensures.size, long, c.args.room.now.marks.ok.0) in
+    let lent : c.deref.result.now ≡ c.mark.new.marks = c.deref.ensures.value ∙ with_items_is c.args.room.now.marks c.mark.new.marks whole in
     let marked = ap (λ (l : List Bool). take c.args.count l) lent ∙ c.in_ok-mark.ensures.marked in
     let found : verdicts_of c.verify_round-board.new.crew ≡ found_behind front known records =
     c.verify_round-board.ensures.verdicts ∙ ap (λ (m : List Bool). verdicts_by front.loaded.plan.circuit front.shape m records) marked in
@@ -44,7 +47,9 @@ put_segment-requires-clause-verdicts g c =
     let front = c.args.front.now in
     let records = records_in c.args.room.now.segment in
     let known = known_in c.args.ledger.now.known in
-    let lent : c.deref.result.now ≡ c.mark.new.marks = search rules in
+    let long = ap length c.deref_mut.ensures.value in
+    let whole : length c.mark.new.marks ≡ c.args.room.now.marks.len = omega (arith, c.in_ok-mark.ensures.size, long, c.args.room.now.marks.ok.0) in
+    let lent : c.deref.result.now ≡ c.mark.new.marks = c.deref.ensures.value ∙ with_items_is c.args.room.now.marks c.mark.new.marks whole in
     let marked = ap (λ (l : List Bool). take c.args.count l) lent ∙ c.in_ok-mark.ensures.marked in
     let found : verdicts_of c.verify_round-board.new.crew ≡ found_behind front known records =
     c.verify_round-board.ensures.verdicts ∙ ap (λ (m : List Bool). verdicts_by front.loaded.plan.circuit front.shape m records) marked in
@@ -79,7 +84,9 @@ returns-in-Ok-clause-advances g c =
     let told = c.tell_segment.ensures in
     let number : length records ≡ c.args.count = (IsCut-held c.args.room.now.segment).number ∙ c.requires.count.0 in
     let seen : c.in_ok-board.board.seat.view ≡ seen_by front old.board = search rules in
-    let lent : c.deref.result.now ≡ c.mark.new.marks = search rules in
+    let long = ap length c.deref_mut.ensures.value in
+    let whole : length c.mark.new.marks ≡ c.args.room.now.marks.len = omega (arith, c.in_ok-mark.ensures.size, long, c.args.room.now.marks.ok.0) in
+    let lent : c.deref.result.now ≡ c.mark.new.marks = c.deref.ensures.value ∙ with_items_is c.args.room.now.marks c.mark.new.marks whole in
     let marked = ap (λ (l : List Bool). take c.args.count l) lent ∙ c.in_ok-mark.ensures.marked in
     let found : verdicts_of c.verify_round-board.new.crew ≡ found_behind front (known_in old.known) records =
     verified.verdicts ∙ ap (λ (m : List Bool). verdicts_by plan.circuit front.shape m records) marked in
