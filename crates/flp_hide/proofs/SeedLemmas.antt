@@ -1,14 +1,15 @@
 -- The wires of all gadgets at their points, and the seeds that give them. From the wires of one gadget up to the laws.
-use Rattle.std.proofs.Common.{ℕ, ◌≡◌, ◌+◌, ◌*◌, ◌%◌, ◌<◌, ◌≤◌, List, length, ap, sym, ◌∙◌, arith}
+use Rattle.std.proofs.Common.{ℕ, ◌≡◌, ◌+◌, ◌*◌, ◌%◌, ◌<◌, ◌≤◌, List, length, map, take, drop, ap, ap₂, sym, ◌∙◌, arith}
 use Rattle.std.specs.List.{range_with_len, sum_by}
 use Rattle.std.specs.Prelude.{slice_index, None}
 use Rattle.std.proofs.lemmas.List.{length-map, ext_get_or}
 use Rattle.std.proofs.lemmas.List.Elements.{All-map}
 use Rattle.std.proofs.lemmas.List.FromFn.{length-map-range_with_len, get_or-map-range_with_len}
-use Rattle.flp_field.specs.Word.{modulus, IsWord, word_difference}
+use Rattle.flp_field.specs.Word.{modulus, IsWord, word_difference, word_product}
 use Rattle.flp_field.proofs.Congruence.{mod_word}
 use Rattle.flp_poly.specs.Polynomial.{value_at}
 use Rattle.flp_poly.specs.Weights.{weight}
+use Rattle.flp_ntt.specs.PointFormula.{word_inverse}
 use Rattle.flp_syntax.specs.Tree.{Program}
 use Rattle.flp_meaning.specs.Circuit.{calls_of, direct}
 use Rattle.flp_meaning.specs.Gadgets.{arity_of, size_of}
@@ -92,6 +93,17 @@ between-at body query low high g input inside below =
     ∙ get_or-map-range_with_len
     (λ k. over_weight body query g (word_difference (slice_index (seeds_for body high g) k) (slice_index (seeds_for body low g) k)))
     0 (arity_of body g) input input 0 below (omega arith)
+
+-- quotients of the words of a gadget in two lists are the seeds between them
+pub quotients-are : (body : Program) (query low high out : List ℕ) (g start count n inverse : ℕ) → start ≡ start_of (arity_of body) g
+    → count ≡ arity_of body g → n ≡ arity_of body g → inverse ≡ word_inverse (first_weight body query g)
+    → out ≡ map (λ k. word_product (word_difference (slice_index (take count (drop start high)) k) (slice_index (take count (drop start low)) k)) inverse) (range_with_len 0 n)
+    → out ≡ seeds_between body query (seeds_for body low g) (seeds_for body high g) g
+quotients-are body query low high out g start count n inverse begins counted long is own =
+    let made : (start count n inverse : ℕ) → List ℕ = λ s k m i.
+    map (λ j. word_product (word_difference (slice_index (take k (drop s high)) j) (slice_index (take k (drop s low)) j)) i) (range_with_len 0 m) in
+    own ∙ ap₂ (λ (s k : ℕ). made s k n inverse) begins counted
+    ∙ ap₂ (λ (m i : ℕ). made (start_of (arity_of body) g) (arity_of body g) m i) long is
 
 -- the wires of a gadget have the values for which the seeds were made
 giving-part : (body : Program) (x joint query values : List ℕ) (g : ℕ) → IsBounded body → gadget_in_domain body query ≡ None → AreSeeds body values

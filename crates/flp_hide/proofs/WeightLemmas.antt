@@ -1,5 +1,5 @@
 -- The weight of the first point of a domain, which is not 0 at a point outside.
-use Rattle.std.proofs.Common.{ℕ, ◌≡◌, ◌+◌, ◌*◌, ◌%◌, ◌^◌, ◌<◌, ◌≤◌, Bool, List, length, arith, ap, sym, subst, ◌∙◌, refl, ⊎_elim}
+use Rattle.std.proofs.Common.{ℕ, ◌≡◌, ◌+◌, ◌*◌, ◌%◌, ◌^◌, ◌<◌, ◌≤◌, Bool, List, length, arith, ap, ap₂, get_or, sym, subst, ◌∙◌, refl, ⊎_elim}
 use Rattle.std.specs.Prelude.{None, sum, ◌==◌}
 use Rattle.std.proofs.lemmas.Bool.{cases_lt, false≢true, eq-eqb}
 use Rattle.flp_field.specs.Word.{modulus, word_power}
@@ -7,9 +7,9 @@ use Rattle.flp_field.specs.Domain.{powers_of}
 use Rattle.flp_field.proofs.Congruence.{Same, same_add, same_mul, mod_word}
 use Rattle.flp_field.proofs.RootsOfUnity.{geometric}
 use Rattle.flp_poly.specs.Interpolation.{inverse_root, inverse_size}
-use Rattle.flp_poly.specs.Weights.{weight}
+use Rattle.flp_poly.specs.Weights.{weight, weights}
 use Rattle.flp_poly.proofs.Interpolation.{power_sum, start_power, inverse_size-times}
-use Rattle.flp_poly.proofs.WeightLemmas.{weight-is, ones-power_sum}
+use Rattle.flp_poly.proofs.WeightLemmas.{weight-is, ones-power_sum, get_or-weights}
 use Rattle.flp_syntax.specs.Tree.{Program}
 use Rattle.flp_meaning.specs.Gadgets.{log_of, size_of}
 use Rattle.flp_meaning.specs.Verifier.{point_of, gadget_in_domain}
@@ -72,3 +72,9 @@ pub weight-some : (body : Program) (query : List ℕ) (gadget : ℕ) → IsBound
 weight-some body query gadget bounded inside outside =
     let small : log_of body gadget ≤ 12 = (domains_hold body gadget bounded inside).0 in
     first-weight-some (log_of body gadget) (point_of body query gadget) (omega arith) (point-outside body query gadget inside outside)
+
+-- the first of the weights of a domain
+pub weight-read : (ws : List ℕ) (size own_size t own_t first : ℕ) → ws ≡ weights size t → size ≡ own_size → t ≡ own_t → 0 < own_size
+    → first ≡ get_or ws 0 0 → first ≡ weight own_size own_t 0
+weight-read ws size own_size t own_t first are sized at some is =
+    is ∙ ap (λ (l : List ℕ). get_or l 0 0) (are ∙ ap₂ (λ (n u : ℕ). weights n u) sized at) ∙ get_or-weights own_size own_t 0 some

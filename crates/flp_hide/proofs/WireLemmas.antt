@@ -4,8 +4,8 @@ use Rattle.std.specs.Prelude.{slice_index}
 use Rattle.std.proofs.lemmas.Nat.{pow_pos}
 use Rattle.flp_field.specs.Word.{modulus, word_difference, word_product}
 use Rattle.flp_field.specs.Sums.{sum_of_products, dot_product}
-use Rattle.flp_field.proofs.Congruence.{Same, same_add, same_mul, same_mod, same_cancel, eq_from_same}
-use Rattle.flp_field.proofs.Order.{group_size_is, same_cancel_mul, has_inverse, inverse_by_power}
+use Rattle.flp_field.proofs.Congruence.{Same, same_add, same_mul, same_mod, same_cancel, eq_from_same, mod_word}
+use Rattle.flp_field.proofs.Order.{group_size_is, same_cancel_mul, has_inverse, inverse_by_power, inverse_unique}
 use Rattle.flp_field.proofs.SumLemmas.{sum_to, sum_to-first}
 use Rattle.flp_poly.specs.Polynomial.{value_at}
 use Rattle.flp_poly.specs.Interpolation.{interpolated}
@@ -59,10 +59,21 @@ seed-unique w s other rest some low s_word other_word same =
     eq_from_same s other s_word other_word
     (same_cancel_mul s other w inverse.0 inverse.2 (same_cancel (w * s) (w * other) rest same))
 
+inverse-word : (w : ℕ) → word_inverse w < modulus
+unfolding word_inverse
+inverse-word w = mod_word _
+
 -- a word times its inverse
 times-inverse : (w : ℕ) → 0 < w → w < modulus → Same (w * word_inverse w) 1
 unfolding word_inverse
 times-inverse w some low = inverse_by_power w 18446744069414584319 (sym group_size_is) some low
+
+-- no other word has this product
+pub inverse-is : (w inverse : ℕ) → 0 < w → w < modulus → inverse < modulus → word_product inverse w ≡ 1 → inverse ≡ word_inverse w
+inverse-is w inverse some low word product =
+    inverse_unique w inverse (word_inverse w) word (inverse-word w)
+    ((let turned : w * inverse ≡ inverse * w = omega arith in ap (λ (n : ℕ). n % modulus) turned) ∙ product)
+    (times-inverse w some low)
 
 -- a difference and the rest
 difference-rest : (high rest : ℕ) → high < modulus → (word_difference high (rest % modulus) + rest) % modulus ≡ high

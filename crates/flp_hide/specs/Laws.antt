@@ -48,3 +48,24 @@ VerifiersAreSame body =
     → IsValid body from joint → IsValid body to joint
     → honest_verifier body from joint seeds query
     ≡ honest_verifier body to joint (reseeded body from to joint query seeds) query
+
+-- the seeds of two encodings match: what they have in common, and that no other seeds have it
+pub record Match (body : Program) (from to joint query seeds others : List ℕ) : Type 0 where
+  -- the wires have the same values
+  pub wires : all_wires_at body to joint others query ≡ all_wires_at body from joint seeds query
+  -- with no other seeds they have
+  pub only :
+      (more : List ℕ) → AreSeeds body more
+      → all_wires_at body to joint more query ≡ all_wires_at body from joint seeds query → more ≡ others
+  -- reseeding back gives the given seeds
+  pub back : reseeded body to from joint query others ≡ seeds
+  -- the whole verifiers of valid encodings are equal
+  pub verifiers :
+      IsValid body from joint → IsValid body to joint
+      → honest_verifier body from joint seeds query ≡ honest_verifier body to joint others query
+
+-- so they do where the one are reseeded from the other
+abbrev pub ReseededMatch : Program → Type 0
+ReseededMatch body =
+    (from to joint query seeds : List ℕ) → IsOutside body query → AreSeeds body seeds
+    → Match body from to joint query seeds (reseeded body from to joint query seeds)

@@ -3,5 +3,7 @@
 pub mod Wires
 -- the laws
 pub mod Laws
+-- the room that a hider has
+pub mod Room
 -- a worked example
 pub mod Examples

@@ -1,6 +1,6 @@
 -- The wires of an honest proof at the query points, and the seeds that give wires these values. From the wires of one gadget up to the seeds that
 -- another encoding needs.
-use Rattle.std.specs.Prelude.{ℕ, List, map, replicate, slice_index}
+use Rattle.std.specs.Prelude.{ℕ, ◌+◌, List, map, replicate, slice_index}
 use Rattle.std.specs.List.{range_with_len, flat_map}
 use Rattle.flp_field.specs.Word.{word_difference, word_product}
 use Rattle.flp_poly.specs.Polynomial.{value_at}
@@ -9,9 +9,9 @@ use Rattle.flp_ntt.specs.PointFormula.{word_inverse}
 use Rattle.flp_syntax.specs.Tree.{Program}
 use Rattle.flp_meaning.specs.Circuit.{calls_of, direct}
 use Rattle.flp_meaning.specs.Gadgets.{gadgets_of, arity_of, size_of}
-use Rattle.flp_meaning.specs.Lengths.{lengths_of}
+use Rattle.flp_meaning.specs.Lengths.{lengths_of, start_of, verifier_part}
 use Rattle.flp_meaning.specs.Wires.{wires_of}
-use Rattle.flp_meaning.specs.Proof.{seeds_for}
+use Rattle.flp_meaning.specs.Proof.{words_at, seeds_for}
 use Rattle.flp_meaning.specs.Verifier.{point_of}
 
 -- the values at its point of the wires of a gadget, of an encoding with these seeds, where the circuit makes its own calls
@@ -24,6 +24,11 @@ wires_at body x joint seeds query gadget =
 -- those of all gadgets, one gadget after another: a word for each seed
 abbrev pub all_wires_at : Program → (x joint seeds query : List ℕ) → List ℕ
 all_wires_at body x joint seeds query = flat_map (wires_at body x joint seeds query) (gadgets_of body)
+
+-- what a verifier has of the wires of a gadget
+abbrev pub wires_of_verifier : Program → List ℕ → ℕ → List ℕ
+wires_of_verifier body verifier gadget =
+    words_at (1 + start_of (verifier_part body) gadget) (arity_of body gadget) verifier
 
 -- ---- the seeds that give wires their values
 

@@ -1,6 +1,7 @@
 //! The laws of seeds, each the contract of a function that does nothing. A caller's proof takes the law from here;
 //! the definitions are in `specs/Laws.antt`.
-ghost use Rattle.flp_hide.specs.Laws.{SeedsExist, SeedsAreUnique, ReseededHasSameWires, ReseedingGoesBack, VerifiersAreSame};
+ghost use Rattle.flp_hide.specs.Laws.{SeedsExist, SeedsAreUnique, ReseededHasSameWires, ReseedingGoesBack};
+ghost use Rattle.flp_hide.specs.Laws.{VerifiersAreSame, ReseededMatch};
 ghost use Rattle.flp_hide.specs.Examples.{CountExample};
 
 use flp_plan::{Plan, laws as plans};
@@ -23,9 +24,11 @@ pub fn reseeding(plan: &Plan)
     plans::is_bounded(plan);
 }
 
-/// And where both encodings are valid, the verifiers of their honest proofs are equal, word by word.
+/// And where both encodings are valid, the verifiers of their honest proofs are equal, word by word. So the seeds
+/// match.
 pub fn verifiers(plan: &Plan)
-    ensures { VerifiersAreSame plan.now.circuit }
+    ensures same { VerifiersAreSame plan.now.circuit }
+    ensures matching { ReseededMatch plan.now.circuit }
 {
     plans::is_bounded(plan);
 }
