@@ -1,16 +1,13 @@
 -- The room that a hider has for the sizes that it was made for.
 use Rattle.std.specs.Prelude.{ℕ, ◌≡◌}
 use Rattle.flp_plan.specs.declared.sizes.Sizes.{Sizes}
+use Rattle.flp_query.specs.Room.{most_points}
 
 -- for the verifier of an honest proof, where the query's room is for these sizes too
 pub record HoldsVerifier (sizes query : Sizes) (proof verifier : ℕ) : Type 0 where
   pub for_query : query ≡ sizes
   pub for_proof : proof ≡ sizes.lengths.proof
   pub for_verifier : verifier ≡ sizes.lengths.verifier
-
--- the points that a domain has at most
-abbrev pub most_points : ℕ
-most_points = 4096
 
 -- for two lists with a word for each wire, and for the weights of a domain
 pub record HoldsWires (sizes : Sizes) (low high weights : ℕ) : Type 0 where
