@@ -8,3 +8,9 @@ pub mod RisingLemmas
 pub mod BisectLemmas
 -- what is known behind old claims
 pub mod MetLemmas
+-- what is put through a block, piece by piece
+pub mod PutsLemmas
+-- elements from one place up to another
+pub mod RangeLemmas
+-- old claims and other nonces, merged in their order
+pub mod MergeLemmas

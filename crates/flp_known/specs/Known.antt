@@ -1,13 +1,9 @@
--- What is known. From the nonces of records up.
+-- What is known.
 use Rattle.std.specs.Prelude.{ℕ, List}
 use Rattle.flp_report.specs.Nonces.{nonces_in}
-use Rattle.flp_known.specs.declared.met.Met.{Met}
 use Rattle.flp_known.specs.declared.known.Known.{Known}
 use Rattle.flp_known.specs.Order.{with_nonces}
-
--- the nonces of the records that were met, but for old claims, in rising order
-abbrev pub met_in : Met → List (List ℕ)
-met_in m = m.nonces.keys
+use Rattle.flp_known.specs.Met.{met_in}
 
 -- the old claims and the nonces of records, in rising order
 abbrev pub known_in : Known → List (List ℕ)

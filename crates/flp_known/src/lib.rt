@@ -10,16 +10,19 @@
 //! | know the nonces of records behind old claims that are lent | [`Met`] |
 //! | ask whether a nonce is an old claim | [`is_claim`] |
 //! | know which nonces are in such a list, and its order | [`laws`] |
+//! | write a piece or a line through a block | [`put_piece`], [`put_line`] |
 #![tactic(auto)]
 
 mod claims;
 mod known;
 pub mod laws;
 mod met;
+mod writing;
 
 pub use claims::is_claim;
 pub use known::Known;
 pub use met::Met;
+pub use writing::{put_line, put_piece};
 
 /// Want of memory, as std's allocators answer it.
 pub use std::alloc::AllocError as Memory;

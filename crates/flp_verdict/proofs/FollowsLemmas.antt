@@ -10,7 +10,7 @@ use Rattle.flp_policy.specs.declared.verdict.Verdict.TheVariants.{Replayed}
 use Rattle.flp_worker.specs.Verdict.{verdict_of}
 use Rattle.flp_known.specs.Among.{is_among}
 use Rattle.flp_known.specs.Order.{with_nonce, with_nonces}
-use Rattle.flp_known.specs.Known.{met_in}
+use Rattle.flp_known.specs.Met.{met_in}
 use Rattle.flp_verdict.specs.declared.judging.Judging.{Judging}
 use Rattle.flp_verdict.specs.Verdicts.{known_behind, verdict_after}
 use Rattle.flp_verdict.specs.Judging.{old_claims_of, Follows}

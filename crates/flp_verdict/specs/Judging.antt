@@ -5,7 +5,7 @@ use Rattle.flp_report.specs.declared.shape.Shape.{Shape}
 use Rattle.flp_report.specs.Nonces.{nonces_in}
 use Rattle.flp_report.specs.Record.{nonce_in}
 use Rattle.flp_known.specs.Order.{with_nonces}
-use Rattle.flp_known.specs.Known.{met_in}
+use Rattle.flp_known.specs.Met.{met_in}
 use Rattle.flp_worker.specs.Worker.{verifier_kept}
 use Rattle.flp_verdict.specs.declared.judging.Judging.{Judging}
 

@@ -1,14 +1,13 @@
 -- What follows the lines of a batch's records where policies may withhold the aggregate, and where the claims are asked
 -- for. From the policies' answers up.
 use Rattle.std.specs.Prelude.{ℕ, List, [], ◌∷◌, ◌++◌, Option, None, Some, Bool, not, nat_le, if◌then◌else◌, codes, decimal, position, fold, map}
-use Rattle.std.specs.List.{flat_map}
 use Rattle.std.specs.Ordering.{nat_cmp}
 use Rattle.std.specs.Cmp.Lexicographic.{slice_cmp}
 use Rattle.std.specs.BTreeSet.{insert_key}
-use Rattle.hex.specs.Hex.{encode_lower}
 use Rattle.flp_syntax.specs.Tree.{Program}
 use Rattle.flp_report.specs.declared.shape.Shape.{Shape}
 use Rattle.flp_report.specs.Record.{nonce_in}
+use Rattle.flp_known.specs.Claims.{claim_lines}
 use Rattle.flp_policy.specs.Counts.{VerdictCounts, counts_of}
 use Rattle.flp_verdict.specs.Verdicts.{judged, verdicts_of}
 use Rattle.flp_verdict.specs.Totals.{count_of, aggregate_of}
@@ -33,13 +32,6 @@ count_line count = codes "count " ++ decimal count ++ codes "\n"
 abbrev pub release_line : (withheld : Option ℕ) → (aggregate : List ℕ) → List ℕ
 release_line None aggregate = codes "aggregate" ++ spaced aggregate ++ codes "\n"
 release_line (Some policy) aggregate = codes "withheld " ++ decimal policy ++ codes "\n"
-
--- the lines of claims
-abbrev pub claim_line : (nonce : List ℕ) → List ℕ
-claim_line nonce = codes "claim " ++ encode_lower nonce ++ codes "\n"
-
-abbrev pub claim_lines : (nonces : List (List ℕ)) → List ℕ
-claim_lines nonces = flat_map claim_line nonces
 
 -- the claims, where they are asked for
 abbrev pub claims_out : (claims : Bool) → (nonces : List (List ℕ)) → List ℕ

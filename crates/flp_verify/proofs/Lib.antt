@@ -6,7 +6,5 @@ pub mod CountingLemmas
 pub mod TotalLemmas
 -- what is printed of a batch that was counted
 pub mod EndingLemmas
--- what is put through a block, piece by piece
-pub mod PutsLemmas
 -- policies that are told a verdict, and the first that does not allow the release
 pub mod ToldLemmas

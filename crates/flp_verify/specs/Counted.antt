@@ -1,7 +1,7 @@
 -- What is known of a batch whose records were all verified, and what is printed of it.
 use Rattle.std.specs.Prelude.{◌≡◌, ℕ, List, Bool, Option, None, Some, map}
 use Rattle.std.specs.List.{range_with_len}
-use Rattle.flp_report.specs.Nonces.{nonces_in}
+use Rattle.flp_known.specs.Known.{known_in}
 use Rattle.flp_tally.specs.declared.view.Entry.{Entry}
 use Rattle.flp_tally.specs.Rows.{total_of, AreSums}
 use Rattle.flp_verdict.specs.Release.{ending_by}
@@ -25,7 +25,7 @@ totals_in counted = totals_of counted.outs counted.seat.view.added
 
 -- what is printed of it behind the lines of its records
 abbrev pub ending_of : Counted → (claims : Bool) → List ℕ
-ending_of counted claims = ending_by counted.numbers.accepted (withheld_by counted.end) (totals_in counted) claims (nonces_in counted.known)
+ending_of counted claims = ending_by counted.numbers.accepted (withheld_by counted.end) (totals_in counted) claims (known_in counted.known)
 
 -- its numbers, and what its seat's rows come to
 pub record IsSummary (counted : Counted) (summary : Summary) : Type 0 where

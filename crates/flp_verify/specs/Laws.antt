@@ -4,7 +4,7 @@ use Rattle.flp_meaning.specs.Gadgets.{out_count}
 use Rattle.flp_tally.specs.Rows.{rows_entries, AreSums}
 use Rattle.flp_pool.specs.Work.{rows_of}
 use Rattle.flp_pool.specs.Range.{EachOnce}
-use Rattle.flp_report.specs.Nonces.{nonces_in}
+use Rattle.flp_known.specs.Known.{known_in}
 use Rattle.flp_policy.specs.Counts.{counts_of}
 use Rattle.flp_batch.specs.Setting.{Setting}
 use Rattle.flp_verdict.specs.Verdicts.{verdicts_of}
@@ -36,7 +36,7 @@ RowsStay =
 -- aggregate, and that the seat has claimed each place once and no other, and added exactly the rows of these places
 pub record IsCounted (by : Setting) (least : ℕ) (would : Answers) (reports : List (List ℕ)) (counted : Counted) : Type 0 where
   pub numbers : counts_in counted.numbers ≡ counts_of (verdicts_of by.circuit by.shape by.claims reports)
-  pub known : nonces_in counted.known ≡ known_after by.claims reports
+  pub known : known_in counted.known ≡ known_after by.claims reports
   pub end : withheld_by counted.end ≡ withheld_from by.circuit by.shape least would by.claims reports
   pub outs : counted.outs ≡ out_count by.circuit
   pub once : EachOnce 0 (length reports) counted.seat.view.claimed

@@ -7,8 +7,6 @@ pub mod Totals
 pub mod Counting
 -- how many places have each verdict
 pub mod Numbers
--- what is put through a block
-pub mod Puts
 -- a batch that was counted, and what is printed of it
 pub mod Counted
 -- the rows that places bring to the sums

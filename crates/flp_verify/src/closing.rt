@@ -3,7 +3,7 @@ ghost use Rattle.std.specs.Prelude.{◌≡◌, ◌⊎◌, Err, IfOk, IfErr, OnOk
 ghost use Rattle.std.specs.Io.KnownBytes.{Appends};
 ghost use Rattle.flp_io.specs.Faults.{Uses};
 ghost use Rattle.flp_io.specs.Writes.{TakesPrefix};
-ghost use Rattle.flp_report.specs.Nonces.{nonces_in};
+ghost use Rattle.flp_known.specs.Known.{known_in};
 ghost use Rattle.flp_tally.specs.Held.{IsSeatOf};
 ghost use Rattle.flp_tally.specs.Rows.{AreSums};
 ghost use Rattle.flp_verdict.specs.Release.{ending_by};
@@ -14,8 +14,8 @@ use crate::counted::{Counted, End, Summary};
 use crate::ending::put_ending;
 use flp_field::Fe;
 use flp_io::{Block, Failed, Sink};
+use flp_known::Known;
 use flp_list::List;
-use flp_report::Nonces;
 use flp_tally::{Seat, Tally};
 use std::alloc::Global;
 
@@ -87,12 +87,12 @@ fn write_ending<K: Sink>(
     end: End,
     aggregate: &[Fe],
     claims: bool,
-    known: &Nonces,
+    known: &Known,
 ) -> Result<(), Failed>
     requires ready { K.ready sink.old }
     requires empty { block.old ≡ [] }
-    ensures whole { OnOk result (Appends (K.taken sink.old) (K.taken sink.new) (ending_by accepted (withheld_by end) aggregate.now claims (nonces_in known.now))) }
-    ensures front { TakesPrefix (K.taken sink.old) (K.taken sink.new) (ending_by accepted (withheld_by end) aggregate.now claims (nonces_in known.now)) }
+    ensures whole { OnOk result (Appends (K.taken sink.old) (K.taken sink.new) (ending_by accepted (withheld_by end) aggregate.now claims (known_in known.now))) }
+    ensures front { TakesPrefix (K.taken sink.old) (K.taken sink.new) (ending_by accepted (withheld_by end) aggregate.now claims (known_in known.now)) }
     ensures uses { Uses K.faults K.ready sink.old sink.new (IsErr result) (IsOk result) }
 {
     put_ending(block, sink, accepted, end, aggregate, claims, known)?;

@@ -4,8 +4,8 @@ ghost use Rattle.flp_tally.specs.Held.{IsSeatOf};
 
 use crate::numbers::Numbers;
 use flp_field::Fe;
+use flp_known::Known;
 use flp_list::List;
-use flp_report::Nonces;
 use flp_tally::{Seat, Tally};
 
 /// Whether the aggregate is released.
@@ -17,15 +17,15 @@ pub enum End {
     Withheld(u32),
 }
 
-/// A batch that was verified: how many places have each verdict, the nonces that are known behind it, in rising order,
-/// whether its aggregate is released, and the tally with all its rows.
+/// A batch that was verified: how many places have each verdict, the nonces that are known behind it, whether its
+/// aggregate is released, and the tally with all its rows.
 ///
 /// The seat is one of the tally with the full weight, and the tally has as many elements as the circuit has outs.
 #[derive(Drop)]
 pub struct Counted {
     pub outs: u32,
     pub numbers: Numbers,
-    pub known: Nonces,
+    pub known: Known,
     pub end: End,
     pub tally: Tally,
     pub seat: Seat,

@@ -1,38 +1,15 @@
 //! What follows the lines of the records, line by line through a block.
-ghost use Rattle.std.specs.Prelude.{◌≡◌, ◌++◌, length, decimal, codes};
-ghost use Rattle.flp_report.specs.Nonces.{nonces_in};
+ghost use Rattle.std.specs.Prelude.{◌++◌, decimal, codes};
+ghost use Rattle.flp_known.specs.Known.{known_in};
+ghost use Rattle.flp_known.specs.Puts.{Puts};
 ghost use Rattle.flp_verdict.specs.Text.{spaced};
-ghost use Rattle.flp_verdict.specs.Release.{release_line, claim_line, claim_lines, claims_out, ending_by};
+ghost use Rattle.flp_verdict.specs.Release.{release_line, claims_out, ending_by};
 ghost use Rattle.flp_verify.specs.Counted.{withheld_by};
-ghost use Rattle.flp_verify.specs.Puts.{Puts};
 
 use crate::counted::End;
 use flp_field::Fe;
 use flp_io::{Block, Failed, Sink};
-use flp_report::Nonces;
-
-/// Puts one piece.
-fn put_piece<K: Sink>(block: &mut Block, sink: &mut K, piece: &[u8]) -> Result<(), Failed>
-    requires { K.ready sink.old }
-    ensures { Puts K.taken K.faults K.ready sink.old sink.new block.old block.new piece.now result }
-{
-    block.push(sink, piece)
-}
-
-/// Puts a line: what it tells, and what it says.
-fn put_line<K: Sink>(
-    block: &mut Block,
-    sink: &mut K,
-    name: &[u8],
-    said: &[u8],
-) -> Result<(), Failed>
-    requires { K.ready sink.old }
-    ensures { Puts K.taken K.faults K.ready sink.old sink.new block.old block.new (name.now ++ (said.now ++ codes "\n")) result }
-{
-    put_piece(block, sink, name)?;
-    put_piece(block, sink, said)?;
-    put_piece(block, sink, b"\n")
-}
+use flp_known::{Known, put_line, put_piece};
 
 /// Puts a line that says a number.
 fn put_number_line<K: Sink>(
@@ -103,41 +80,18 @@ fn put_release<K: Sink>(
     }
 }
 
-/// Puts the line of a claim, a nonce of 16 bytes.
-fn put_claim<K: Sink>(block: &mut Block, sink: &mut K, nonce: &[u8]) -> Result<(), Failed>
-    requires ready { K.ready sink.old }
-    requires nonce { length nonce.now ≡ 16 }
-    ensures { Puts K.taken K.faults K.ready sink.old sink.new block.old block.new (claim_line nonce.now) result }
-{
-    let mut digits = [0; 32];
-    hex::encode_to_slice(nonce, &mut digits).unwrap();
-    put_line(block, sink, b"claim ", &digits)
-}
-
-/// Puts the lines of claims.
-fn put_claims<K: Sink>(block: &mut Block, sink: &mut K, known: &Nonces) -> Result<(), Failed>
-    requires { K.ready sink.old }
-    ensures { Puts K.taken K.faults K.ready sink.old sink.new block.old block.new (claim_lines (nonces_in known.now)) result }
-{
-    flp_report::laws::held_parts();
-    for index in 0..known.len() {
-        put_claim(block, sink, known.at(index))?;
-    }
-    Ok(())
-}
-
 /// Puts the lines of claims where they are asked for.
 fn put_claims_out<K: Sink>(
     block: &mut Block,
     sink: &mut K,
     claims: bool,
-    known: &Nonces,
+    known: &Known,
 ) -> Result<(), Failed>
     requires { K.ready sink.old }
-    ensures { Puts K.taken K.faults K.ready sink.old sink.new block.old block.new (claims_out claims (nonces_in known.now)) result }
+    ensures { Puts K.taken K.faults K.ready sink.old sink.new block.old block.new (claims_out claims (known_in known.now)) result }
 {
     if claims {
-        put_claims(block, sink, known)
+        known.put_claims(block, sink)
     } else {
         put_piece(block, sink, b"")
     }
@@ -152,10 +106,10 @@ pub(crate) fn put_ending<K: Sink>(
     end: End,
     aggregate: &[Fe],
     claims: bool,
-    known: &Nonces,
+    known: &Known,
 ) -> Result<(), Failed>
     requires { K.ready sink.old }
-    ensures { Puts K.taken K.faults K.ready sink.old sink.new block.old block.new (ending_by accepted (withheld_by end) aggregate.now claims (nonces_in known.now)) result }
+    ensures { Puts K.taken K.faults K.ready sink.old sink.new block.old block.new (ending_by accepted (withheld_by end) aggregate.now claims (known_in known.now)) result }
 {
     put_number_line(block, sink, b"count ", accepted)?;
     put_release(block, sink, end, aggregate)?;

@@ -1,7 +1,7 @@
 use Rattle.std.proofs.Common.{◌≡◌, ◌∙◌, ℕ, List, ap, sym, subst, refl}
 use Rattle.std.specs.Io.KnownBytes.{Appends}
 use Rattle.flp_io.specs.Writes.{TakesPrefix}
-use Rattle.flp_report.specs.Nonces.{nonces_in}
+use Rattle.flp_known.specs.Known.{known_in}
 use Rattle.flp_tally.specs.Rows.{AreSums}
 use Rattle.flp_verdict.specs.Release.{ending_by}
 use Rattle.flp_verify.specs.Counted.{withheld_by, totals_of, totals_in}
@@ -12,7 +12,7 @@ returns-in-Err-clause-front g c =
     let counted = c.args.counted in
     let same : c.as_slice.result.now ≡ totals_in counted =
     c.as_slice.ensures.value ∙ (c.close_into.ensures.totals ∙ ap (λ (n : ℕ). totals_of n counted.seat.view.added) counted.sized) in
-    subst (λ (l : List ℕ). TakesPrefix (g.K.Sink.taken c.args.output.now) (g.K.Sink.taken c.write_ending.new.sink) (ending_by counted.numbers.accepted (withheld_by counted.end) l c.args.claims (nonces_in counted.known)))
+    subst (λ (l : List ℕ). TakesPrefix (g.K.Sink.taken c.args.output.now) (g.K.Sink.taken c.write_ending.new.sink) (ending_by counted.numbers.accepted (withheld_by counted.end) l c.args.claims (known_in counted.known)))
     same c.in-Err.ensures.front
 
 pub returns-clause-front : goal.returns-clause-front
@@ -20,7 +20,7 @@ returns-clause-front g c =
     let counted = c.args.counted in
     let same : c.as_slice.result.now ≡ totals_in counted =
     c.as_slice.ensures.value ∙ (c.close_into.ensures.totals ∙ ap (λ (n : ℕ). totals_of n counted.seat.view.added) counted.sized) in
-    subst (λ (l : List ℕ). TakesPrefix (g.K.Sink.taken c.args.output.now) (g.K.Sink.taken c.write_ending.new.sink) (ending_by counted.numbers.accepted (withheld_by counted.end) l c.args.claims (nonces_in counted.known)))
+    subst (λ (l : List ℕ). TakesPrefix (g.K.Sink.taken c.args.output.now) (g.K.Sink.taken c.write_ending.new.sink) (ending_by counted.numbers.accepted (withheld_by counted.end) l c.args.claims (known_in counted.known)))
     same c.in-Ok.ensures.front
 
 pub returns-clause-written : goal.returns-clause-written
@@ -28,7 +28,7 @@ returns-clause-written g c =
     let counted = c.args.counted in
     let same : c.as_slice.result.now ≡ totals_in counted =
     c.as_slice.ensures.value ∙ (c.close_into.ensures.totals ∙ ap (λ (n : ℕ). totals_of n counted.seat.view.added) counted.sized) in
-    subst (λ (l : List ℕ). Appends (g.K.Sink.taken c.args.output.now) (g.K.Sink.taken c.write_ending.new.sink) (ending_by counted.numbers.accepted (withheld_by counted.end) l c.args.claims (nonces_in counted.known)))
+    subst (λ (l : List ℕ). Appends (g.K.Sink.taken c.args.output.now) (g.K.Sink.taken c.write_ending.new.sink) (ending_by counted.numbers.accepted (withheld_by counted.end) l c.args.claims (known_in counted.known)))
     same c.in-Ok.ensures.whole
 
 pub returns-clause-summary : goal.returns-clause-summary

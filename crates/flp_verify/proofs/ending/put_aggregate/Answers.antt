@@ -1,6 +1,6 @@
 use Rattle.std.proofs.Common.{◌++◌, refl, codes}
 use Rattle.flp_verdict.specs.Text.{spaced}
-use Rattle.flp_verify.proofs.PutsLemmas.{Puts-after, Puts-short}
+use Rattle.flp_known.proofs.PutsLemmas.{Puts-after, Puts-short}
 use Rattle.flp_verify.proofs.ending.put_aggregate.Goals as goal
 
 pub returns-in_err-put_piece : goal.returns-in_err-put_piece

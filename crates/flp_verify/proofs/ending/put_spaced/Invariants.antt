@@ -1,7 +1,7 @@
 use Rattle.std.proofs.Common.{take, Ok}
 use Rattle.flp_io.specs.declared.failed.Failed.{Failed}
 use Rattle.flp_verdict.specs.Text.{spaced}
-use Rattle.flp_verify.specs.Puts.{Puts}
+use Rattle.flp_known.specs.Puts.{Puts}
 use Rattle.flp_verify.proofs.ending.put_spaced.Given as goal
 
 abbrev pub invariant-loop-number : goal.invariant-loop-number

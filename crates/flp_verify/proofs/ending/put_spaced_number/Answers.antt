@@ -1,5 +1,5 @@
 use Rattle.std.proofs.Common.{refl, codes, decimal}
-use Rattle.flp_verify.proofs.PutsLemmas.{Puts-after, Puts-short}
+use Rattle.flp_known.proofs.PutsLemmas.{Puts-after, Puts-short}
 use Rattle.flp_verify.proofs.ending.put_spaced_number.Goals as goal
 
 pub returns-in_err-put_piece : goal.returns-in_err-put_piece

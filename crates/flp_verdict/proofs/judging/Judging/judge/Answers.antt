@@ -2,7 +2,7 @@ use Rattle.std.proofs.Common.{◌∙◌, ℕ, List, map, refl, sym, ap}
 use Rattle.flp_report.specs.Record.{record_of, nonce_in}
 use Rattle.flp_known.specs.Among.{is_among}
 use Rattle.flp_known.specs.Order.{with_nonce, with_nonces}
-use Rattle.flp_known.specs.Known.{met_in}
+use Rattle.flp_known.specs.Met.{met_in}
 use Rattle.flp_verdict.specs.Verdicts.{known_behind}
 use Rattle.flp_verdict.specs.Judging.{program_of, record_shape_of, old_claims_of}
 use Rattle.flp_verdict.proofs.FollowsLemmas.{Follows-more, verdict-new, verdict-known}

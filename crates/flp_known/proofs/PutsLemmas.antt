@@ -1,5 +1,5 @@
 -- How texts that are put through a block one after another add up.
-use Rattle.std.proofs.Common.{◌≡◌, ℕ, ◌+◌, ◌<◌, ◌≤◌, List, [], ◌∷◌, ◌++◌, length, take, drop, get_or, Option, refl, sym, ap, ◌∙◌, subst, arith, append_assoc, append-nil, take-append-drop}
+use Rattle.std.proofs.Common.{◌≡◌, ℕ, ◌+◌, ◌<◌, ◌≤◌, List, [], ◌∷◌, ◌++◌, length, take, drop, get_or, Option, refl, sym, ap, ◌∙◌, subst, append_assoc, append-nil, take-append-drop}
 use Rattle.std.specs.Prelude.{Result, Ok, Err, IsOk, IsErr, OnOk}
 use Rattle.std.specs.List.{flat_map}
 use Rattle.std.specs.Io.KnownBytes.{Appends}
@@ -11,7 +11,8 @@ use Rattle.flp_io.specs.Writes.{TakesPrefix}
 use Rattle.flp_io.proofs.BlockLemmas.{Passes-join, Passes-flushed}
 use Rattle.flp_io.proofs.UsesLemmas.{Uses-none, Uses-after, Uses-as}
 use Rattle.flp_io.proofs.WriteLemmas.{TakesPrefix-refl, TakesPrefix-more, TakesPrefix-after}
-use Rattle.flp_verify.specs.Puts.{Puts}
+use Rattle.flp_io.specs.declared.failed.Failed.{Failed}
+use Rattle.flp_known.specs.Puts.{Puts}
 
 -- a prefix of what is held and more, after a text went in
 front-after : (a b c : Option (List ℕ)) (held held' text more : List ℕ) → Passes a held text b held' → TakesPrefix b c (held' ++ more) → TakesPrefix a c (held ++ (text ++ more))
@@ -82,6 +83,40 @@ module _ {K : Type 0} {taken : K → Option (List ℕ)} {faults : K → ℕ} {re
     pub Puts-all : {T E : Type 0} {a b : K} {r : Result T E} {held held' : List ℕ} (i : ℕ) → length xs ≤ i → Puts taken faults ready a b held held' (flat_map f (take i xs)) r → Puts taken faults ready a b held held' (flat_map f xs) r
     Puts-all {a = a} {b = b} {r = r} {held = held} {held' = held'} i all p =
         subst (λ (l : List X). Puts taken faults ready a b held held' (flat_map f l) r) (take_all i xs all) p
+
+-- ---- a text of which some is left
+
+-- of a text so much was put that this is left
+pub record PutsUpTo {K : Type 0} (taken : K → Option (List ℕ)) (faults : K → ℕ) (ready : K → Type 0) (old new : K) (held held' text left : List ℕ) : Type 0 where
+  pub front : List ℕ
+  pub puts : Puts {T = Unit {0}} {E = Failed} taken faults ready old new held held' front (Ok tt)
+  pub split : text ≡ front ++ left
+
+module _ {K : Type 0} {taken : K → Option (List ℕ)} {faults : K → ℕ} {ready : K → Type 0} where
+  -- nothing was put
+  pub UpTo-none : (a : K) (held text left : List ℕ) → text ≡ left → ready a → PutsUpTo taken faults ready a a held held text left
+  UpTo-none a held text left is may = record { front = []; puts = Puts-none a held tt may; split = is }
+
+  -- one piece more
+  pub UpTo-more : {a b c : K} {held held' held'' text : List ℕ} (left piece more : List ℕ) → left ≡ piece ++ more → PutsUpTo taken faults ready a b held held' text left → Puts {T = Unit {0}} {E = Failed} taken faults ready b c held' held'' piece (Ok tt) → PutsUpTo taken faults ready a c held held'' text more
+  UpTo-more left piece more is p q =
+      record {
+        front = p.front ++ piece;
+        puts = Puts-after p.front piece p.puts refl q;
+        split = p.split ∙ (ap (λ (l : List ℕ). p.front ++ l) is ∙ sym (append_assoc p.front piece more));
+      }
+
+  -- the next piece failed, and so did the whole
+  pub UpTo-stop : {U F V G : Type 0} {s : Result U F} {t : Result V G} {a b c : K} {held held' held'' text : List ℕ} (left piece more : List ℕ) → left ≡ piece ++ more → PutsUpTo taken faults ready a b held held' text left → Puts taken faults ready b c held' held'' piece s → IsErr s → IsErr t → Puts taken faults ready a c held held'' text t
+  UpTo-stop {t = t} {a = a} {c = c} {held = held} {held'' = held''} left piece more is p q err fails =
+      subst (λ (text : List ℕ). Puts taken faults ready a c held held'' text t) (append_assoc p.front piece more ∙ (ap (λ (l : List ℕ). p.front ++ l) (sym is) ∙ sym p.split))
+      (Puts-short {s = t} (p.front ++ piece) more (Puts-after p.front piece p.puts refl q) err fails)
+
+  -- all that was left was put, or that failed
+  pub UpTo-end : {U F : Type 0} {s : Result U F} {a b c : K} {held held' held'' text : List ℕ} (left piece : List ℕ) → left ≡ piece → PutsUpTo taken faults ready a b held held' text left → Puts taken faults ready b c held' held'' piece s → Puts taken faults ready a c held held'' text s
+  UpTo-end {s = s} {a = a} {c = c} {held = held} {held'' = held''} left piece is p q =
+      subst (λ (text : List ℕ). Puts taken faults ready a c held held'' text s) (ap (λ (l : List ℕ). p.front ++ l) (sym is) ∙ sym p.split)
+      (Puts-after p.front piece p.puts refl q)
 
 -- a prefix of what an empty block was given, after some of what it held was written
 pub front-flushed : (a b c : Option (List ℕ)) (held held' text : List ℕ) → held ≡ [] → Passes a held text b held' → TakesPrefix b c held' → TakesPrefix a c text

@@ -1,6 +1,6 @@
-use Rattle.std.proofs.Common.{◌∷◌, ◌++◌, [], refl, codes}
-use Rattle.flp_verify.proofs.PutsLemmas.{Puts-after, Puts-short}
-use Rattle.flp_verify.proofs.ending.put_line.Goals as goal
+use Rattle.std.proofs.Common.{◌++◌, refl, codes}
+use Rattle.flp_known.proofs.PutsLemmas.{Puts-after, Puts-short}
+use Rattle.flp_known.proofs.writing.put_line.Goals as goal
 
 pub returns-in_err-put_piece : goal.returns-in_err-put_piece
 returns-in_err-put_piece g c = Puts-short c.args.name.now (c.args.said.now ++ codes "\n") c.in_err-put_piece.ensures refl c.from_residual.ensures.0
