@@ -50,11 +50,11 @@ placed-all : (s : Shape) (rs : List (List ℕ)) → All (HasBucket s) rs → pla
 placed-all s rs all = ap (placed s) (sym (append-nil rs)) ∙ (placed-behind s rs [] all ∙ append-nil rs)
 
 -- records up to the end of the input are those of a batch
-record IsWhole (party : Option ℕ) (o : Opened) (bytes : List ℕ) (rs : List (List ℕ)) : Type 0 where
-  is_batch : IsBatch party bytes o.loaded.params (setting_of o)
-  whole : whole_records newest_read party o.shape bytes ≡ rs
+pub record IsWhole (party : Option ℕ) (o : Opened) (bytes : List ℕ) (rs : List (List ℕ)) : Type 0 where
+  pub is_batch : IsBatch party bytes o.loaded.params (setting_of o)
+  pub whole : whole_records newest_read party o.shape bytes ≡ rs
 
-whole-behind : (party : Option ℕ) (o : Opened) (first left : Option (List ℕ)) (opens : Opens party first left o) (rs : List (List ℕ))
+pub whole-behind : (party : Option ℕ) (o : Opened) (first left : Option (List ℕ)) (opens : Opens party first left o) (rs : List (List ℕ))
     → length rs ≡ o.header.reports → All (λ r. length r ≡ bytes_of o.shape) rs → IsWhole party o (opens.front ++ concat rs) rs
 whole-behind party o first left opens rs number sizes =
     let rest = concat rs in
@@ -100,7 +100,7 @@ StopsInText-behind party o words first left left' taken taken' opens all =
     }
 
 -- an end among the records is one among the whole records of the bytes that were read
-StopsEarly-behind : (party : Option ℕ) (o : Opened) (words : Setting → Wording) (first left left' taken taken' : Option (List ℕ))
+pub StopsEarly-behind : (party : Option ℕ) (o : Opened) (words : Setting → Wording) (first left left' taken taken' : Option (List ℕ))
     → Opens party first left o → Stops (bytes_of o.shape) o.header.reports (words (setting_of o)).line left left' taken taken'
     → StopsEarly party (λ by. lines_of (words by).line) first left' taken taken'
 StopsEarly-behind party o words first left left' taken taken' opens stop =

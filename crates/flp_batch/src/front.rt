@@ -95,7 +95,7 @@ fn read_claims<S: Source>(
 /// An error is the first fault of the file up to there, where that of the circuit comes behind those of
 /// the head and in front of [`flp_report::BatchFault::TooLarge`]; or else [`EngineFault::Read`] or
 /// [`EngineFault::Memory`]. Where a party is given, it must be below the number of shares.
-pub(crate) fn open<S: Source>(
+pub fn open<S: Source>(
     alloc: Global,
     reader: &mut BatchReader<'_, S>,
     party: Option<u32>,

@@ -27,7 +27,7 @@ mod records;
 
 pub use command::perform;
 pub use fault::EngineFault;
-pub use front::Opened;
+pub use front::{Opened, open};
 pub use judge::{Judge, Task};
 pub use records::walk;
 
