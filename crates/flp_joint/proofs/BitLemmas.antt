@@ -30,9 +30,10 @@ bits_of_front count b n h =
 
 -- lists of one length in front tell the parts
 pub parts_same : (xs us ys vs : List ℕ) → length xs ≡ length us → xs ++ ys ≡ us ++ vs → (xs ≡ us) × (ys ≡ vs)
-parts_same xs us ys vs long e =
-    (sym (take-append_seam xs ys) ∙ ap₂ (λ (n : ℕ) (l : List ℕ). take n l) long e ∙ take-append_seam us vs,
-    sym (drop-append_seam xs ys) ∙ ap₂ (λ (n : ℕ) (l : List ℕ). drop n l) long e ∙ drop-append_seam us vs)
+parts_same xs us ys vs long e = (
+  sym (take-append_seam xs ys) ∙ ap₂ (λ (n : ℕ) (l : List ℕ). take n l) long e ∙ take-append_seam us vs,
+  sym (drop-append_seam xs ys) ∙ ap₂ (λ (n : ℕ) (l : List ℕ). drop n l) long e ∙ drop-append_seam us vs,
+)
 
 -- the bit length of a number below 2^63
 pub length_limit : BitLengthsAreLeast → (n : ℕ) → n < 2 ^ 63 → bit_length n ≤ 63
@@ -110,3 +111,9 @@ numbers_in bits (suc count) x h long =
       below = All-cons (λ n. n < 2 ^ bits) first.0 rest.numbers (subst (λ (k : ℕ). first.0 < 2 ^ k) front first.1) rest.below;
       same = ap₂ (λ (a b : List ℕ). a ++ b) (ap (λ (k : ℕ). bits_of k first.0) (sym front) ∙ first.2) rest.same ∙ take-append-drop bits x;
     }
+
+-- a number of at most 63 bits
+pub two_limit : (n count : ℕ) → count ≤ 63 → n < 2 ^ count → n < 2 ^ 63
+two_limit n count few below =
+    let top : 2 ^ count ≤ 2 ^ 63 = pow-le-pow_right {n = 2} (lit< tt) few in
+    omega arith

@@ -1,8 +1,12 @@
 -- Bits of which one is 1.
-use Rattle.std.proofs.Common.{ℕ, zero, suc, ◌+◌, ◌-◌, ◌*◌, ◌<◌, ◌≤◌, ◌≡◌, Bool, cond, eqb, List, [], ◌∷◌, ◌++◌, length, drop, get_or, replicate, All, sym, ap, ap₂, ◌∙◌, refl, arith}
-use Rattle.std.proofs.lemmas.Bool.{ne_eqb}
+use Rattle.std.proofs.Common.{ℕ, zero, suc, ◌+◌, ◌-◌, ◌*◌, ◌<◌, ◌≤◌, ◌≡◌, Bool, true, false, cond, eqb, Option, None, Some, List, [], ◌∷◌, ◌++◌, length, drop, get_or, replicate, All, position, sym, ap, ap₂, ◌∙◌, refl, arith}
+use Rattle.std.specs.Option.{unwrap_or}
+use Rattle.std.specs.List.{position_from}
+use Rattle.std.proofs.lemmas.Bool.{ne_eqb, eqb-true}
+use Rattle.std.proofs.lemmas.Iterator.Adapters.{position_from-zero}
+use Rattle.std.proofs.lemmas.List.Quantifiers.{position-Some}
 use Rattle.std.proofs.lemmas.List.Elements.{All-head, All-tail}
-use Rattle.std.proofs.lemmas.List.Sums.{sum_by-cons}
+use Rattle.std.proofs.lemmas.List.Sums.{sum_by-cons, count_by-le-length}
 use Rattle.std.proofs.lemmas.List.Folds.{sum_by-replicate}
 use Rattle.flp_circuits.specs.Encoding.{one_at, weight_of}
 use Rattle.flp_joint.specs.Decoding.{AreBits}
@@ -15,6 +19,9 @@ weight-zero more = weight-cons 0 more ∙ (let same : 0 + weight_of more ≡ wei
 
 weight-one : (more : List ℕ) → weight_of (1 ∷ more) ≡ suc (weight_of more)
 weight-one more = weight-cons 1 more ∙ (let same : 1 + weight_of more ≡ suc (weight_of more) = omega arith in same)
+
+pub weight-le-length : (x : List ℕ) → weight_of x ≤ length x
+weight-le-length x = count_by-le-length (λ n. eqb n 1) x
 
 -- one 1 has weight 1
 pub weight-one_at : (before after : ℕ) → weight_of (replicate before 0 ++ 1 ∷ replicate after 0) ≡ 1
@@ -73,3 +80,24 @@ place_same zero zero m n e = refl
 place_same zero (suc b) m n e = absurd (let apart : ◌≡◌ {A = ℕ} 1 0 = ap (λ (l : List ℕ). get_or l 0 0) e in omega arith)
 place_same (suc a) zero m n e = absurd (let apart : ◌≡◌ {A = ℕ} 0 1 = ap (λ (l : List ℕ). get_or l 0 0) e in omega arith)
 place_same (suc a) (suc b) m n e = ap suc (place_same a b m n (ap (λ (l : List ℕ). drop 1 l) e))
+
+-- where no 1 is found there is no weight
+none_weighs : (x : List ℕ) (i : ℕ) → position_from (λ n. eqb n 1) i x ≡ None → weight_of x ≡ 0
+none_weighs [] i e = refl
+none_weighs (w ∷ more) i e = weight-cons w more ∙ passed (eqb w 1) (position_from (λ n. eqb n 1) (i + 1) more) e (none_weighs more (i + 1))
+  where
+    passed : (b : Bool) (o : Option ℕ) → cond b (Some i) o ≡ None → (o ≡ None → weight_of more ≡ 0) → cond b 1 0 + weight_of more ≡ 0
+    passed true o e rest = cc
+    passed false o e rest = omega (arith, rest e)
+
+-- the first 1 is found
+pub found : (x : List ℕ) (place : ℕ) → AreBits x → weight_of x ≡ 1 → place ≡ unwrap_or (position (λ n. eqb n 1) x) 0 → (place < length x) × (one_at (length x) place ≡ x)
+found x place bits one e = by_cases (position (λ n. eqb n 1) x) refl
+  where
+    by_cases : (o : Option ℕ) → position (λ n. eqb n 1) x ≡ o → (place < length x) × (one_at (length x) place ≡ x)
+    by_cases None none = absurd (omega (arith, none_weighs x 0 (sym (position_from-zero (λ n. eqb n 1) x) ∙ none)))
+    by_cases (Some i) some =
+        let there = position-Some (λ n. eqb n 1) x i 0 some in
+        let same : place ≡ i = e ∙ ap (λ (o : Option ℕ). unwrap_or o 0) some in
+        let below : place < length x = omega (arith, there.0) in
+        (below, one_place x place bits one below (ap (λ (k : ℕ). get_or x k 0) same ∙ eqb-true (get_or x i 0) 1 there.1))

@@ -1,5 +1,5 @@
 //! Measurements read back from their encodings.
-ghost use Rattle.std.specs.Prelude.{◌≡◌, ◌*◌, ◌^◌, ◌<◌, ◌≤◌, ◌↔◌, IsTrue, All, length};
+ghost use Rattle.std.specs.Prelude.{◌≡◌, ◌*◌, ◌^◌, ◌<◌, ◌≤◌, ◌↔◌, ◌==◌, IsTrue, All, length, position};
 ghost use Rattle.std.specs.Bool.{OnTrue, OnFalse};
 ghost use Rattle.std.specs.List.{flat_map};
 ghost use Rattle.flp_circuits.specs.Bits.{bits_of};
@@ -38,6 +38,13 @@ fn read_words(x: &[Fe], out: &mut [u64])
     }
 }
 
+/// The place of the first 1.
+fn first_one(x: &[Fe]) -> Option<usize>
+    ensures { result ≡ position (λ n. n == 1) x.now }
+{
+    x.iter().position(|word| word.value() == 1)
+}
+
 /// The place of the 1 among bits of which no other is 1.
 fn place_of_one(x: &[Fe]) -> usize
     requires bits { AreBits x.now }
@@ -45,7 +52,7 @@ fn place_of_one(x: &[Fe]) -> usize
     ensures below { result < length x.now }
     ensures place { one_at (length x.now) result ≡ x.now }
 {
-    x.iter().position(|word| word.value() == 1).unwrap_or(0)
+    first_one(x).unwrap_or(0)
 }
 
 /// Writes the measurement whose encoding the words are.
@@ -55,6 +62,7 @@ fn read(params: &Params, x: &[Fe], out: &mut [u64])
     requires places { length out.old ≡ input_len_of params.now }
     ensures { Encodes params.now out.new x.now }
 {
+    flp_circuits::laws::bit_lengths();
     match *params {
         Params::Count => read_words(x, out),
         Params::Sum { .. } => out[0] = number_of(&x[..x.len() / 2]),

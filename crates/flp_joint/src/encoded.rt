@@ -42,8 +42,9 @@ fn adds_up(params: &Params, x: &[Fe]) -> bool
     ensures { IsTrue result ↔ IsEncoding params.now x.now }
 {
     match *params {
-        Params::Count | Params::SumVec { .. } => true,
+        Params::Count => true,
         Params::Sum { max } => is_sum(max, x),
+        Params::SumVec { .. } => true,
         Params::Histogram { .. } => ones(x) == 1,
         Params::Multihot {
             length,
