@@ -117,3 +117,6 @@ pub two_limit : (n count : ℕ) → count ≤ 63 → n < 2 ^ count → n < 2 ^ 6
 two_limit n count few below =
     let top : 2 ^ count ≤ 2 ^ 63 = pow-le-pow_right {n = 2} (lit< tt) few in
     omega arith
+
+pub two_more : (n : ℕ) → 2 ^ suc n ≡ 2 * 2 ^ n
+two_more n = pow-succ' 2 n
