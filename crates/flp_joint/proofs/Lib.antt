@@ -1,0 +1,11 @@
+-- The lemmas of reading encodings back.
+-- numbers and their bits
+pub mod BitLemmas
+-- bits of which one is 1
+pub mod PlaceLemmas
+-- what a measurement that is not refused keeps to, and which words are encodings
+pub mod EncodingLemmas
+-- checks that are 0, and words that are bits
+pub mod CheckLemmas
+-- which words pass the checks that no joint word enters
+pub mod FixedLemmas
