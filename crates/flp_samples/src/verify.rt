@@ -20,6 +20,7 @@ const BATCH: &[u8] = b"FLPBATCH\
 
 /// What is written of it, first by the one call and then by both.
 const LINE: &[u8] = b"000102030405060708090a0b0c0d0e0f accepted\n";
+
 const TEXT: &[u8] = b"000102030405060708090a0b0c0d0e0f accepted\ncount 1\naggregate 1\n";
 
 /// One report, which is accepted.
