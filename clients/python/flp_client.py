@@ -2,15 +2,15 @@
 """A client of flp in plain Python 3: makes job files of measurements, and reads what flp prints.
 
     flp_client.py jobs CIRCUIT [--shares S] [--proofs K] [--lengths TEXT] < measurements.csv > measurements.job
-    flp_client.py split BATCH PREFIX --parts N [--lengths TEXT]
+    flp_client.py split PREFIX BATCH .. --parts N [--lengths TEXT]
     flp_client.py add TEXT .. [--min M] [--ending]
     flp_client.py verdicts TEXT
     flp_client.py chart TEXT [--title WORDS] [--names A,B,..] > chart.svg
 
 `jobs` takes a row of numbers for each report, its measurement, or of another circuit than the standard ones the words
 of its encoding, and draws nonces, shares and seeds from the system's randomness. CIRCUIT is a file with the circuit's
-text. `split` puts the records of a batch into N batches by their nonces, PREFIX0.batch and so on, so that equal nonces
-and their old claims meet in one of them. `add` makes one text of what `flp verify` printed of such parts, without the
+text. `split` puts the records of batches, one behind the other, into N batches by their nonces, PREFIX0.batch and so
+on, so that equal nonces and their old claims meet in one of them. `add` makes one text of what `flp verify` printed of such parts, without the
 verdicts where --ending is given, and withholds the aggregate of fewer than M reports. `verdicts` counts the verdicts
 of a text by kind, and `chart` draws its aggregate as bars.
 
@@ -203,23 +203,34 @@ def part_of(nonce, parts):
     return int.from_bytes(nonce[:16], "little") % parts
 
 
-def split(source, sinks, printed=None):
-    """Writes a batch to so many sinks, which can be sought, by the nonces of its records and old claims.
+def front_of_all(fronts):
+    """The front of several batches as one: they agree in shares, proofs and text, and their claims are merged."""
+    first = fronts[0]
+    if any((front.shares, front.proofs, front.text) != (first.shares, first.proofs, first.text) for front in fronts):
+        raise ValueError("the batches differ in their shares, proofs or circuit text")
+    claims = sorted(set().union(*(front.claims for front in fronts)))
+    return dataclasses.replace(first, claims=claims, reports=0)
+
+
+def split(sources, sinks, printed=None):
+    """Writes batches, as if they were one, to so many sinks, which can be sought, by the nonces of records and claims.
 
     The records are read once and none is kept; how many there are of each part is written into its head at the end.
     """
-    front, parts = read_front(source), len(sinks)
+    fronts, parts = [read_front(source) for source in sources], len(sinks)
+    front = front_of_all(fronts)
     size, counts = front.record_size(printed), [0] * parts
     for part, sink in enumerate(sinks):
         mine = [old for old in front.claims if part_of(old, parts) == part]
-        sink.write(dataclasses.replace(front, claims=mine, reports=0).packed())
-    for _ in range(front.reports):
-        record = read_exactly(source, size, "its records")
-        part = part_of(record, parts)
-        sinks[part].write(record)
-        counts[part] += 1
-    if source.read(1):
-        raise ValueError("bytes follow the batch's last record")
+        sink.write(dataclasses.replace(front, claims=mine).packed())
+    for source, given in zip(sources, fronts):
+        for _ in range(given.reports):
+            record = read_exactly(source, size, "its records")
+            part = part_of(record, parts)
+            sinks[part].write(record)
+            counts[part] += 1
+        if source.read(1):
+            raise ValueError("bytes follow a batch's last record")
     for sink, count in zip(sinks, counts):
         sink.seek(28)
         sink.write(struct.pack("<I", count))
@@ -331,9 +342,9 @@ def run_jobs(given):
 
 def run_split(given):
     with contextlib.ExitStack() as files:
-        source = files.enter_context(open(given.batch, "rb"))
+        sources = [files.enter_context(open(name, "rb")) for name in given.batches]
         sinks = [files.enter_context(open(f"{given.prefix}{part}.batch", "wb")) for part in range(given.parts)]
-        split(source, sinks, given.lengths)
+        split(sources, sinks, given.lengths)
 
 
 def run_add(given):
@@ -367,7 +378,9 @@ def main():
     jobs = command("jobs", run_jobs, "circuit", "--lengths")
     jobs.add_argument("--shares", type=int, default=2, choices=range(2, 17), metavar="2..16")
     jobs.add_argument("--proofs", type=int, default=1, choices=range(1, 17), metavar="1..16")
-    command("split", run_split, "batch", "prefix", "--lengths").add_argument("--parts", type=int, required=True)
+    parts = command("split", run_split, "prefix", "--lengths")
+    parts.add_argument("batches", nargs="+")
+    parts.add_argument("--parts", type=int, required=True)
     add = command("add", run_add)
     add.add_argument("texts", nargs="+")
     add.add_argument("--min", type=int, default=0)

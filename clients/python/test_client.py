@@ -53,10 +53,10 @@ def run(program, words, given):
     return ended.stdout
 
 
-def parts_of(batch, parts):
-    """The bytes of so many parts of a batch."""
+def parts_of(parts, *batches):
+    """The bytes of so many parts of batches."""
     sinks = [io.BytesIO() for _ in range(parts)]
-    counts = client.split(io.BytesIO(batch), sinks)
+    counts = client.split([io.BytesIO(batch) for batch in batches], sinks)
     made = [sink.getvalue() for sink in sinks]
     assert [client.read_front(io.BytesIO(part)).reports for part in made] == counts
     return made
@@ -68,9 +68,9 @@ def split_and_joined():
         batch = open(os.path.join(DATA, name), "rb").read()
         whole = client.read_front(io.BytesIO(batch))
         size = whole.record_size()
-        assert parts_of(batch, 1) == [batch], name
+        assert parts_of(1, batch) == [batch], name
         claims, records = [], []
-        for part in parts_of(batch, 3):
+        for part in parts_of(3, batch):
             source = io.BytesIO(part)
             front = client.read_front(source)
             assert front.claims == sorted(front.claims)
@@ -79,6 +79,16 @@ def split_and_joined():
         source = io.BytesIO(batch[len(whole.packed()) :])
         assert sorted(claims) == whole.claims
         assert sorted(records) == sorted(source.read(size) for _ in range(whole.reports)), name
+
+
+def batches_joined():
+    """Several batches are split as one that has all their old claims and records."""
+    old, new = (open(os.path.join(DATA, name), "rb").read() for name in ("claimed.batch", "replayed.batch"))
+    [made] = parts_of(1, new, old, old)
+    front, claimed = client.read_front(io.BytesIO(made)), client.read_front(io.BytesIO(old))
+    records = [batch[len(client.read_front(io.BytesIO(batch)).packed()) :] for batch in (new, old, old)]
+    assert (front.reports, front.claims) == (6, claimed.claims)
+    assert made[len(front.packed()) :] == b"".join(records)
 
 
 def texts_add_up():
@@ -109,7 +119,7 @@ def counted(program, text, rows, aggregate, shares, proofs):
     assert client.verdicts(whole) == {"accepted": len(rows)}, whole
     ending = client.read_text(whole)
     assert (ending.count, ending.aggregate) == (len(rows), aggregate), whole
-    parts = [run(program, ["verify", "--workers", "1"], part).decode().splitlines() for part in parts_of(batch, 3)]
+    parts = [run(program, ["verify", "--workers", "1"], part).decode().splitlines() for part in parts_of(3, batch)]
     assert client.total(map(client.read_text, parts)) == ending, parts
     assert sorted(line for part in parts for line in part[:-2]) == sorted(whole[:-2]), parts
 
@@ -119,6 +129,7 @@ def main():
     same_as_example("histogram.job", 2, 1)
     same_as_example("shares.job", 3, 2)
     split_and_joined()
+    batches_joined()
     texts_add_up()
     assert client.chart([1, 0, 2], "a < b", ["yes", "no"]).count("<rect x=") == 3
     program = sys.argv[1] if len(sys.argv) > 1 else os.path.join(TOP, "crates", "flp", "out", "flp")
