@@ -23,7 +23,8 @@ def read(name):
 
 def svg(height, parts):
     """A picture of this height with these parts, on white."""
-    head = f'<svg xmlns="http://www.w3.org/2000/svg" viewBox="0 0 {WIDTH} {height}" font-family="sans-serif" font-size="12">'
+    size = f'viewBox="0 0 {WIDTH} {height}" font-family="sans-serif" font-size="12"'
+    head = f'<svg xmlns="http://www.w3.org/2000/svg" {size}>'
     ground = f'<rect x="0" y="0" width="{WIDTH}" height="{height}" fill="#ffffff"/>'
     return "\n".join([head, ground, *parts, "</svg>", ""])
 
@@ -35,7 +36,8 @@ def text(x, y, words, anchor="middle", size=12):
 
 def box(x, y, wide, tall, colour, title=""):
     inner = f"<title>{title}</title>" if title else ""
-    return f'<rect x="{x:g}" y="{y:g}" width="{wide:g}" height="{tall:g}" rx="4" fill="{colour}" stroke="{LINE}">{inner}</rect>'
+    place = f'x="{x:g}" y="{y:g}" width="{wide:g}" height="{tall:g}"'
+    return f'<rect {place} rx="4" fill="{colour}" stroke="{LINE}">{inner}</rect>'
 
 
 # ---- the layers of crates
@@ -65,7 +67,7 @@ def all_below(below):
 def nearest(below):
     """For each crate those that it stands on and that none of the others stands on."""
     whole = all_below(below)
-    return {name: [dep for dep in deps if not any(dep in whole[other] for other in deps)] for name, deps in below.items()}
+    return {name: [dep for dep in deps if not any(dep in whole[over] for over in deps)] for name, deps in below.items()}
 
 
 def rows_of(names, below):
@@ -114,7 +116,8 @@ def draw_layers():
         for dep in spots:
             x1, y1, x2, y2 = middle[name], top[name] + tall, middle[dep], top[dep]
             half = (y1 + y2) / 2
-            parts.append(f'<path d="M{x1:.0f} {y1:.0f} C{x1:.0f} {half:.0f} {x2:.0f} {half:.0f} {x2:.0f} {y2:.0f}" fill="none" stroke="{LINE}"/>')
+            curve = f"M{x1:.0f} {y1:.0f} C{x1:.0f} {half:.0f} {x2:.0f} {half:.0f} {x2:.0f} {y2:.0f}"
+            parts.append(f'<path d="{curve}" fill="none" stroke="{LINE}"/>')
     for name in below:
         said = f"{name} stands on {', '.join(below[name]) or 'none'}"
         boxes.append(box(middle[name] - wide / 2, top[name], wide, tall, "#ffffff", said))
@@ -143,7 +146,9 @@ ENDS = [
 
 
 def step_box(x, y, wide, words, crate, said, colour):
-    return [box(x, y, wide, 58, colour), text(x + wide / 2, y + 18, words, size=13), text(x + wide / 2, y + 34, crate), text(x + wide / 2, y + 50, said, size=10)]
+    middle = x + wide / 2
+    lines = [text(middle, y + 18, words, size=13), text(middle, y + 34, crate), text(middle, y + 50, said, size=10)]
+    return [box(x, y, wide, 58, colour), *lines]
 
 
 def arrow(x1, y1, x2, y2):
@@ -175,10 +180,12 @@ def draw_costs():
     rows = [[cell.strip() for cell in line.strip("|").split("|")] for line in table.splitlines()]
     costs = [(name, size, 1e6 / int(rate.replace(",", ""))) for name, size, rate in rows]
     most = max(cost for _, _, cost in costs)
-    parts, y = [text(10, 20, "microseconds a report, two shares and one proof, one worker (docs/COSTS.md)", "start", 13)], 36
+    title = "microseconds a report, two shares and one proof, one worker (docs/COSTS.md)"
+    parts, y = [text(10, 20, title, "start", 13)], 36
     for name, size, cost in costs:
         long = 560 * cost / most
-        parts += [text(330, y + 17, name, "end"), box(340, y, long, 24, BAR), text(350 + long, y + 17, f"{cost:.1f}, {size} bytes", "start")]
+        parts += [text(330, y + 17, name, "end"), box(340, y, long, 24, BAR)]
+        parts.append(text(350 + long, y + 17, f"{cost:.1f}, {size} bytes", "start"))
         y += 34
     return svg(y + 4, parts)
 

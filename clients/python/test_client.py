@@ -40,7 +40,8 @@ def same_as_example(name, shares, proofs):
         drawn += numbers[lengths.inputs :]
     kept, names = iter(drawn), iter(nonces)
     draw, random = client.words, client.secrets.token_bytes
-    client.words, client.secrets.token_bytes = lambda count: [next(kept) for _ in range(count)], lambda count: next(names)
+    client.words = lambda count: [next(kept) for _ in range(count)]
+    client.secrets.token_bytes = lambda count: next(names)
     try:
         assert client.job_file(text, lengths, shares, proofs, rows) == wanted, name
     finally:
@@ -94,8 +95,10 @@ def batches_joined():
 def texts_add_up():
     """Endings of parts are those of the whole, with --min and --claims as without."""
     nonce = "0" * 31
-    ones = f"{nonce}0 accepted\n{nonce}2 replayed\ncount 1\naggregate 1 {client.P - 1}\nclaim {nonce}0\nclaim {nonce}2\n"
-    twos = f"{nonce}1 malformed 7\n{nonce}3 accepted\ncount 1\naggregate 0 2\nclaim {nonce}1\nclaim {nonce}3\n"
+    ones = f"{nonce}0 accepted\n{nonce}2 replayed\ncount 1\naggregate 1 {client.P - 1}\n"
+    twos = f"{nonce}1 malformed 7\n{nonce}3 accepted\ncount 1\naggregate 0 2\n"
+    ones += f"claim {nonce}0\nclaim {nonce}2\n"
+    twos += f"claim {nonce}1\nclaim {nonce}3\n"
     both = [client.read_text(text.splitlines()) for text in (ones, twos)]
     claims = "".join(f"claim {nonce}{k}\n" for k in range(4))
     assert client.printed_ending(client.total(both)) == "count 2\naggregate 1 1\n" + claims
