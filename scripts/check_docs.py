@@ -53,7 +53,8 @@ def words_of(name):
 def check_words(text):
     """The tables that give the words of a file of one report by their numbers."""
     head = "| words | values | content |\n|---|---|---|\n"
-    for name, rows in re.findall(r"`(crates/flp_cases/data/[\w.]+)`[^\n]*:\n\n" + re.escape(head) + r"((?:\|.*\n)+)", text):
+    table = r"`(crates/flp_cases/data/[\w.]+)`[^\n]*:\n\n" + re.escape(head) + r"((?:\|.*\n)+)"
+    for name, rows in re.findall(table, text):
         words, met = words_of(name), 0
         for first, last, values in re.findall(r"^\| (\d+)(?: to (\d+))? \| ([\d ]+) \|", rows, re.M):
             first, last = int(first), int(last or first)

@@ -319,7 +319,8 @@ def main():
     seconds = time.monotonic() - start
     print(f"{done} inputs of seed {given.seed} in {seconds:.0f} seconds, {found} break a rule")
     counts = sorted(program.statuses.items())
-    print("runs by command and status:", ", ".join(f"{command} {status}: {count}" for (command, status), count in counts))
+    said = [f"{command} {status}: {count}" for (command, status), count in counts]
+    print("runs by command and status:", ", ".join(said))
     sys.exit(1 if found else 0)
 
 
