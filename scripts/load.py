@@ -7,7 +7,7 @@ Reports are honest ones of `flp prove` under nonces that count up; every line of
 Count reports and 10^5 wide ones by 4 workers; a source that stops for a while after each piece, and a sink that does;
 the output closed in mid-stream (status 5 and its line, no signal, and what came is a prefix of the text); the input
 closed in mid-stream (status 6, and the lines of all whole segments); a head that promises reports which don't come.
-PERCENT (100) scales the numbers of reports. FLP names the program where it is not crates/flp/out/flp.
+PERCENT (100) scales the numbers of the first two rows. FLP names the program where it is not crates/flp/out/flp.
 """
 import argparse
 import dataclasses
@@ -158,7 +158,7 @@ def main():
     places = [k * 37 % 1024 for k in range(10)]
     vectors = [[int(place == k) for k in range(1024)] for place in places]
     wide = load(program, "use histogram length=1024 chunk=32;", [[place] for place in places], vectors)
-    some = int(200000 * scale)
+    some = 200000
     print("| load | reports | status | seconds | peak, MB | bytes of output |\n|---|---|---|---|---|---|")
     whole(program, "counts", counts, int(10**7 * scale))
     whole(program, "one of 1,024 places", wide, int(10**5 * scale))
