@@ -95,6 +95,18 @@ def answer(program, words, given):
     return subprocess.run([program, *words], input=given, capture_output=True)
 
 
+def check_bodies(program, text):
+    """The standard circuits as bodies: the same lengths, and the same verdicts on the reports of the example."""
+    for standard, body in re.findall(r"^`(use [^`]*;)`\n\n```\n(.*?)```", text, re.S | re.M):
+        name = f"crates/flp_cases/data/{standard.split()[1]}.batch"
+        batch, short, long = content_of(name), standard.encode(), body.encode()
+        at = batch.index(short)
+        other = batch[:20] + struct.pack("<I", len(long)) + batch[24:at] + long + batch[at + len(short) :]
+        pairs = [(["lengths"], short, long), (["verify", "--workers", "1"], batch, other)]
+        if any(answer(program, words, one).stdout != answer(program, words, two).stdout for words, one, two in pairs):
+            faults.append(f"the body of {standard}")
+
+
 def check_printed(program, text):
     """The blocks that show what a command prints of a file."""
     shown = r"What `flp ([^`]*)` prints of `(crates/flp_cases/data/[\w.]+)`[^\n]*:\n\n```\n(.*?)```"
@@ -143,6 +155,7 @@ def main():
         check_refusals(program, circuits)
         check_lengths(program, formats + circuits)
         check_printed(program, formats)
+        check_bodies(program, circuits)
         check_first_screen(program, read("README.md"))
     else:
         print(f"skipped, since {program} is not built: what the program answers")
