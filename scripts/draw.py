@@ -1,11 +1,11 @@
 #!/usr/bin/env python3
 """Draws the pictures of the documents, as SVG.
 
-    draw.py             writes docs/layers.svg, docs/record.svg and docs/costs.svg
+    draw.py             writes docs/layers.svg, record.svg, costs.svg and beside.svg
     draw.py --check     names those that differ from what would be written
 
-The layers are those of crates.txt, whose comments name a layer, as "# language: circuit texts". The costs are the table
-of docs/COSTS.md with the reports a second of each circuit.
+The layers are those of crates.txt, whose comments name a layer, as "# language: circuit texts". The costs are two tables of
+docs/COSTS.md: the reports a second of each circuit, and how many times as long they take as by a hand-tuned program.
 """
 import os
 import re
@@ -174,23 +174,38 @@ def draw_record():
 # ---- what a report costs
 
 
-def draw_costs():
-    page = read("docs/COSTS.md")
-    table = re.search(r"\| circuit \| bytes of a report \| reports a second \|\n\|[-|]+\n((?:\|.*\n)+)", page).group(1)
-    rows = [[cell.strip() for cell in line.strip("|").split("|")] for line in table.splitlines()]
-    costs = [(name, size, 1e6 / int(rate.replace(",", ""))) for name, size, rate in rows]
-    most = max(cost for _, _, cost in costs)
-    title = "microseconds a report, two shares and one proof, one worker (docs/COSTS.md)"
+def table(columns):
+    """The rows of the table of docs/COSTS.md with these columns."""
+    head = "| " + " | ".join(columns) + " |\n"
+    rows = read("docs/COSTS.md").split(head)[1].split("\n\n")[0].splitlines()[1:]
+    return [[cell.strip() for cell in row.strip("|").split("|")] for row in rows]
+
+
+def bars(title, rows):
+    """A bar for each row of a name, a number and the words behind the bar."""
+    most = max(number for _, number, _ in rows)
     parts, y = [text(10, 20, title, "start", 13)], 36
-    for name, size, cost in costs:
-        long = 560 * cost / most
-        parts += [text(330, y + 17, name, "end"), box(340, y, long, 24, BAR)]
-        parts.append(text(350 + long, y + 17, f"{cost:.1f}, {size} bytes", "start"))
+    for name, number, words in rows:
+        long = 560 * number / most
+        parts += [text(330, y + 17, name, "end"), box(340, y, long, 24, BAR), text(350 + long, y + 17, words, "start")]
         y += 34
     return svg(y + 4, parts)
 
 
-PICTURES = {"layers": draw_layers, "record": draw_record, "costs": draw_costs}
+def draw_costs():
+    rows = []
+    for name, size, rate in table(["circuit", "bytes of a report", "reports a second"]):
+        cost = 1e6 / int(rate.replace(",", ""))
+        rows.append((name, cost, f"{cost:.1f}, {size} bytes"))
+    return bars("microseconds a report, two shares and one proof, one worker (docs/COSTS.md)", rows)
+
+
+def draw_beside():
+    rows = [(name, float(ratio), ratio) for name, ratio in table(["report", "times as long"])]
+    return bars("times as long as a hand-tuned program without proofs, one worker (docs/COSTS.md)", rows)
+
+
+PICTURES = {"layers": draw_layers, "record": draw_record, "costs": draw_costs, "beside": draw_beside}
 
 
 def main():
