@@ -4,8 +4,9 @@
     draw.py             writes docs/layers.svg, record.svg, costs.svg and beside.svg
     draw.py --check     names those that differ from what would be written
 
-The layers are those of crates.txt, whose comments name a layer, as "# language: circuit texts". The costs are two tables of
-docs/COSTS.md: the reports a second of each circuit, and how many times as long they take as by a hand-tuned program.
+The layers are those of crates.txt, whose comments name a layer, as "# language: circuit texts". The costs are two
+tables of docs/COSTS.md: the reports a second of each circuit, and how many times as long they take as by a hand-tuned
+program.
 """
 import os
 import re
