@@ -1,5 +1,5 @@
 //! What `explain` makes of each record of a batch.
-ghost use Rattle.std.specs.Prelude.{◌≡◌, ◌++◌, ◌<◌, [], length, vec_len, IfOk, OnOk};
+ghost use Rattle.std.specs.Prelude.{◌≡◌, ◌++◌, ◌<◌, [], None, length, vec_len, IfOk, OnOk};
 ghost use Rattle.std.specs.List.{flat_map};
 ghost use Rattle.flp_report.specs.Shape.{words_of};
 ghost use Rattle.flp_report.specs.Record.{record_of, words_in};
@@ -97,7 +97,7 @@ impl<'a> Explaining<'a> {
         shape: &Shape,
     ) -> Result<Explaining<'a>, Memory>
         requires { IsShapeOf plan.now.circuit shape.now }
-        ensures { IfOk result (λ e. setting_of e ≡ record { circuit = plan.now.circuit; shape = shape.now; claims = [] }) }
+        ensures { IfOk result (λ e. setting_of e ≡ record { params = None; circuit = plan.now.circuit; shape = shape.now; claims = [] }) }
     {
         Ok(Explaining {
             alloc,
