@@ -88,8 +88,3 @@ least_is chunk x place call some first at =
       let below : place / chunk < suc e = (div-lt_iff_lt-mul {k = chunk} {x = place} {y = suc e} some).1 top in
       omega arith;
     }
-
-pub words_are_least : (params : Params) (x : List ℕ) (call bound : ℕ) → Fits params → caught_in params x ≡ Some (Word call bound) → (chunk_of params ≡ Some bound) × IsLeastCall bound x call
-words_are_least params x call bound fits e =
-    let n = named params x call bound e in
-    (n.chunk, least_is bound x n.place call (chunk_some params bound fits n.chunk) n.first n.at)

@@ -1,25 +1,28 @@
 -- What joint words let pass.
-use Rattle.std.proofs.Common.{ℕ, zero, suc, ◌+◌, ◌-◌, ◌*◌, ◌/◌, ◌%◌, ◌<◌, ◌≤◌, ◌≡◌, ◌≢◌, Bool, true, false, cond, ltb, Option, None, Some, List, [], ◌∷◌, length, slice_set, All, AllPairs, position, sym, subst, ap, ◌∙◌, refl, lit<, ⊎_elim, arith}
+use Rattle.std.proofs.Common.{ℕ, zero, suc, ◌+◌, ◌-◌, ◌*◌, ◌/◌, ◌%◌, ◌^◌, ◌<◌, ◌≤◌, ◌≡◌, ◌≢◌, Bool, true, false, cond, ltb, Option, None, Some, List, [], ◌∷◌, length, slice_set, All, AllPairs, position, sym, subst, ap, ◌∙◌, refl, lit<, ⊎_elim, arith}
 use Rattle.std.specs.Option.{option_map, option_and_then, unwrap_or}
 use Rattle.std.proofs.Math.Nat.{div-mul-le_self, le-div_iff_mul-le}
 use Rattle.std.proofs.lemmas.Bool.{cases_lt, false≢true}
 use Rattle.std.proofs.lemmas.List.{get_or_past}
 use Rattle.std.proofs.lemmas.List.Quantifiers.{position-Some}
-use Rattle.std.proofs.lemmas.List.Elements.{All-nil, All-cons, All-head, All-tail}
+use Rattle.std.proofs.lemmas.List.Elements.{All-nil, All-cons, All-head, All-tail, All-weaker}
+use Rattle.flp_count.specs.Count.{AtMost, PassEach}
+use Rattle.flp_count.proofs.ChoiceLemmas.{choices_are_few, product_of-same}
 use Rattle.flp_field.specs.Word.{modulus, IsWord, AreWords}
 use Rattle.flp_syntax.specs.declared.syntax.Params.{Params}
 use Rattle.flp_syntax.specs.declared.syntax.Params.TheVariants.{Count, Sum, SumVec, Histogram, Multihot}
 use Rattle.flp_meaning.specs.Circuit.{IsValid}
 use Rattle.flp_circuits.specs.Formulas.{word, formula_of, range_formula, range_sum}
-use Rattle.flp_circuits.specs.Laws.{ChecksAreFormulas}
+use Rattle.flp_circuits.specs.Laws.{BitLengthsAreLeast, ChecksAreFormulas}
 use Rattle.flp_circuits.specs.Sizes.{Fits, meas_len_of, quotient_up}
 use Rattle.flp_circuits.specs.Standard.{standard_program}
 use Rattle.flp_joint.specs.declared.caught.Caught.{Caught}
 use Rattle.flp_joint.specs.declared.caught.Caught.TheVariants.{Never, Word}
 use Rattle.flp_joint.specs.Caught.{are_zero, chunk_of, fixed_checks, least_call, caught_in}
-use Rattle.flp_joint.specs.Laws.{IsValidWith}
+use Rattle.flp_joint.specs.Laws.{AreJoint, IsValidWith, IsNever, IsCaught, Means, CaughtMeans}
 use Rattle.flp_joint.proofs.CallLemmas.{IsNamed, named, chunk_some, least_is, inner}
 use Rattle.flp_joint.proofs.CheckLemmas.{AllZero, zero_all}
+use Rattle.flp_joint.proofs.FixedLemmas.{none_iff}
 use Rattle.flp_joint.proofs.RangeLemmas.{range_none, few_roots}
 
 -- ---- the checks in two parts
@@ -63,7 +66,7 @@ fails_where_never : (b : Bool) (o : Option Caught) → (o ≡ Some Never → ⊥
 fails_where_never true o none e = absurd (none e)
 fails_where_never false o none e = refl
 
-pub never_is_invalid : ChecksAreFormulas → (params : Params) (x joint : List ℕ) → caught_in params x ≡ Some Never → IsValid (standard_program params) x joint → ⊥
+never_is_invalid : ChecksAreFormulas → (params : Params) (x joint : List ℕ) → caught_in params x ≡ Some Never → IsValid (standard_program params) x joint → ⊥
 never_is_invalid formulas params x joint e valid =
     let fails : are_zero (fixed_checks params x) ≡ false = fails_where_never (are_zero (fixed_checks params x)) (option_and_then (λ chunk. least_call chunk x) (chunk_of params)) (no_never params x) e in
     let zero : AllZero (formula_of params x joint) = subst AllZero (formulas params x joint) valid in
@@ -75,9 +78,8 @@ word_none : (joint : List ℕ) → All (λ w. w ≡ 0) joint → (i : ℕ) → w
 word_none joint zeros i =
     ⊎_elim (λ (lt : i < length joint). zeros i 0 lt) (λ (ge : length joint ≤ i). get_or_past joint i 0 ge) (cases_lt i (length joint))
 
-pub zeros_let_pass : ChecksAreFormulas → (params : Params) (x joint : List ℕ) (call bound : ℕ) → caught_in params x ≡ Some (Word call bound) → All (λ w. w ≡ 0) joint → IsValid (standard_program params) x joint
-zeros_let_pass formulas params x joint call bound e zeros =
-    let n = named params x call bound e in
+zeros_let_pass : ChecksAreFormulas → (params : Params) (x joint : List ℕ) (call bound : ℕ) → IsNamed params x call bound → All (λ w. w ≡ 0) joint → IsValid (standard_program params) x joint
+zeros_let_pass formulas params x joint call bound n zeros =
     let range : range_formula params bound x joint ≡ 0 = ap (λ (k : ℕ). k % modulus) (range_none x joint (quotient_up (meas_len_of params) bound) bound (word_none joint zeros)) in
     subst AllZero (sym (formulas params x joint ∙ parts params bound x joint n.chunk))
     (All-cons (λ value. value ≡ 0) (range_formula params bound x joint) (fixed_checks params x) range n.fixed)
@@ -93,15 +95,58 @@ word_below : (x : List ℕ) → AreWords x → (i : ℕ) → word x i < modulus
 word_below x words i =
     ⊎_elim (λ (lt : i < length x). words i 0 lt) (λ (ge : length x ≤ i). omega (arith, get_or_past x i 0 ge)) (cases_lt i (length x))
 
-pub few_let_pass : ChecksAreFormulas → (params : Params) (x joint : List ℕ) (call bound : ℕ) → Fits params → AreWords x → length x ≡ meas_len_of params → length joint ≡ (standard_program params).joint → caught_in params x ≡ Some (Word call bound) → (values : List ℕ) → AllPairs (λ one other. one ≢ other) values → All (IsValidWith params x joint call) values → length values ≤ bound
-few_let_pass formulas params x joint call bound fits words long size e values differ valid =
-    let n = named params x call bound e in
-    let some : 0 < bound = chunk_some params bound fits n.chunk in
+-- the number of a joint word
+call_inside : (params : Params) (x : List ℕ) (call bound : ℕ) → Fits params → length x ≡ meas_len_of params → IsNamed params x call bound → call < (standard_program params).joint
+call_inside params x call bound fits long n =
+    let calls : ℕ = quotient_up (meas_len_of params) bound in
     let there = position-Some (λ w. ltb 1 w) x n.place 0 n.first in
-    let calls = quotient_up (meas_len_of params) bound in
-    let below : call < calls = subst (λ (k : ℕ). k < calls) n.at (call_below (meas_len_of params) bound n.place some (omega (arith, there.0))) in
-    let inside : call < length joint = omega (arith, calls_are params bound n.chunk) in
-    few_roots x joint values calls bound call below inside (word_below x words) (least_is bound x n.place call some n.first n.at).some differ
+    let below : call < calls = subst (λ (k : ℕ). k < calls) n.at (call_below (meas_len_of params) bound n.place (chunk_some params bound fits n.chunk) (omega (arith, there.0, long))) in
+    omega (arith, below, calls_are params bound n.chunk)
+
+few_let_pass : ChecksAreFormulas → (params : Params) (x joint : List ℕ) (call bound : ℕ) → Fits params → AreWords x → length x ≡ meas_len_of params → AreJoint params joint → IsNamed params x call bound → AtMost bound (IsValidWith params x call joint)
+few_let_pass formulas params x joint call bound fits words long size n values differ valid =
+    let some : 0 < bound = chunk_some params bound fits n.chunk in
+    let inside : call < (standard_program params).joint = call_inside params x call bound fits long n in
+    few_roots x joint values (quotient_up (meas_len_of params) bound) bound call (omega (arith, inside, calls_are params bound n.chunk)) (omega (arith, inside, size)) (word_below x words) (least_is bound x n.place call some n.first n.at).some differ
     (λ k d low.
     let v = valid k d low in
     (v.is_word, All-head (λ value. value ≡ 0) (range_formula params bound x (slice_set joint call _)) (fixed_checks params x) (subst AllZero (formulas params x (slice_set joint call _) ∙ parts params bound x (slice_set joint call _) n.chunk) v.valid)))
+
+-- with several proofs
+few_choices : ChecksAreFormulas → (params : Params) (x : List ℕ) (call bound : ℕ) → Fits params → AreWords x → length x ≡ meas_len_of params → IsNamed params x call bound → (joints : List (List ℕ)) → All (AreJoint params) joints → AtMost (bound ^ length joints) (PassEach (IsValidWith params x call) joints)
+few_choices formulas params x call bound fits words long n joints sizes =
+    subst (λ (most : ℕ). AtMost most (PassEach (IsValidWith params x call) joints)) (product_of-same bound joints)
+    (choices_are_few (IsValidWith params x call) (λ joint. bound) joints
+    (All-weaker (AreJoint params) (λ joint. AtMost bound (IsValidWith params x call joint)) (λ joint size. few_let_pass formulas params x joint call bound fits words long size n) joints sizes))
+
+-- ---- what is told
+
+none_some : (c : Caught) → None ≡ Some c → ⊥
+none_some c e = cc
+
+is_never : BitLengthsAreLeast → ChecksAreFormulas → (params : Params) (x : List ℕ) → Fits params → AreWords x → length x ≡ meas_len_of params → caught_in params x ≡ Some Never → IsNever params x
+is_never lengths formulas params x fits words long e = record {
+  refused = λ whole. none_some Never (sym ((none_iff lengths params x fits long words).1 whole) ∙ e);
+  invalid = λ joint. never_is_invalid formulas params x joint e;
+}
+
+is_caught : BitLengthsAreLeast → ChecksAreFormulas → (params : Params) (x : List ℕ) (call bound : ℕ) → Fits params → AreWords x → length x ≡ meas_len_of params → caught_in params x ≡ Some (Word call bound) → IsCaught params x call bound
+is_caught lengths formulas params x call bound fits words long e =
+    let n = named params x call bound e in
+    record {
+      refused = λ whole. none_some (Word call bound) (sym ((none_iff lengths params x fits long words).1 whole) ∙ e);
+      inside = call_inside params x call bound fits long n;
+      chunk = n.chunk;
+      call = least_is bound x n.place call (chunk_some params bound fits n.chunk) n.first n.at;
+      zeros = λ joint. zeros_let_pass formulas params x joint call bound n;
+      few = λ joint size. few_let_pass formulas params x joint call bound fits words long size n;
+      choices = few_choices formulas params x call bound fits words long n;
+    }
+
+pub caught_means : BitLengthsAreLeast → ChecksAreFormulas → CaughtMeans
+caught_means lengths formulas params x fits words long = by_case (caught_in params x) refl
+  where
+    by_case : (told : Option Caught) → caught_in params x ≡ told → Means params x told
+    by_case None e = (none_iff lengths params x fits long words).0 e
+    by_case (Some Never) e = is_never lengths formulas params x fits words long e
+    by_case (Some (Word call bound)) e = is_caught lengths formulas params x call bound fits words long e

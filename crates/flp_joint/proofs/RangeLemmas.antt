@@ -140,7 +140,7 @@ at_number f start (suc count) (suc j) h = at_number f (suc start) count j (omega
 pub few_roots : (x joint values : List ℕ) (calls chunk call : ℕ) → call < calls → call < length joint → ((i : ℕ) → word x i < modulus) → HasOther chunk x call → AllPairs (λ one other. one ≢ other) values → All (λ w. IsWord w × (range_sum x (slice_set joint call w) calls chunk % modulus ≡ 0)) values → length values ≤ chunk
 few_roots x joint values calls chunk call here inside words other differ passes =
     let cs = in_one_word x joint calls chunk call in
-    let size : length cs ≡ suc chunk = ap suc (length-map (λ j. term x chunk call j % modulus) (numbers_from 0 chunk) ∙ length-numbers 0 chunk) in
+    let size : length cs ≡ suc chunk = ap suc (length-map (numbers_from 0 chunk) (λ j. term x chunk call j % modulus) ∙ length-numbers 0 chunk) in
     let at : word cs (suc other.0) ≡ term x chunk call other.0 % modulus =
     at_number (λ j. term x chunk call j % modulus) 0 chunk other.0 other.1 ∙ (let same : 0 + other.0 ≡ other.0 = omega arith in ap (λ (j : ℕ). term x chunk call j % modulus) same) in
     root_count cs chunk values
