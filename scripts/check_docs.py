@@ -6,6 +6,7 @@
 """
 import os
 import re
+import struct
 import subprocess
 import sys
 
@@ -41,6 +42,28 @@ def check_dumps(text):
             faults.append(f"the dump of {name}")
 
 
+def words_of(name):
+    """The words of the first record of a batch, or of the first job of a job file."""
+    content = open(os.path.join(TOP, name), "rb").read()
+    front = 28 if content[:8] == b"FLPTASKS" else 32
+    start = front + struct.unpack_from("<I", content, 20)[0] + 16
+    return struct.unpack_from(f"<{(len(content) - start) // 8}Q", content, start)
+
+
+def check_words(text):
+    """The tables that give the words of a file of one report by their numbers."""
+    head = "| words | values | content |\n|---|---|---|\n"
+    for name, rows in re.findall(r"`(crates/flp_cases/data/[\w.]+)`[^\n]*:\n\n" + re.escape(head) + r"((?:\|.*\n)+)", text):
+        words, met = words_of(name), 0
+        for first, last, values in re.findall(r"^\| (\d+)(?: to (\d+))? \| ([\d ]+) \|", rows, re.M):
+            first, last = int(first), int(last or first)
+            if [str(word) for word in words[first : last + 1]] != values.split():
+                faults.append(f"words {first} to {last} of {name}")
+            met = last + 1
+        if met != len(words):
+            faults.append(f"the last word of {name}")
+
+
 def answer(program, words, given):
     return subprocess.run([program, *words], input=given.encode(), capture_output=True)
 
@@ -67,6 +90,7 @@ def check_lengths(program, text):
 def main():
     formats, circuits = read("docs/FORMATS.md"), read("docs/CIRCUITS.md")
     check_dumps(formats)
+    check_words(formats)
     program = sys.argv[1] if len(sys.argv) > 1 else os.path.join(TOP, "crates", "flp", "out", "flp")
     if os.path.exists(program):
         check_refusals(program, circuits)
