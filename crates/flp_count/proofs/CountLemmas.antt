@@ -7,7 +7,7 @@ use Rattle.std.proofs.lemmas.List.{get_or-map, length-map}
 use Rattle.std.proofs.lemmas.List.Elements.{All-weaker, All-map, All-filter, All-cons, All-nil, filter_passes}
 use Rattle.std.proofs.lemmas.List.Filters.{length-filter_both}
 use Rattle.std.proofs.lemmas.List.Kept.{AllPairs-filter, AllPairs-cons}
-use Rattle.flp_weak.specs.AtMost.{AtMost}
+use Rattle.flp_count.specs.Count.{AtMost}
 
 -- what passes a test that is harder to pass is no more
 pub at_most-harder : {A : Type 0} (n : ℕ) (P Q : A → Type 0) → ((a : A) → P a → Q a) → AtMost n Q → AtMost n P
