@@ -2,7 +2,7 @@ use Rattle.std.proofs.Common.{Some, sym, ap, ◌∙◌}
 use Rattle.flp_report.specs.JobParts.{job_of}
 use Rattle.flp_jobs.specs.Reading.{setting_of}
 use Rattle.flp_jobs.proofs.MeasLemmas.{job-counted}
-use Rattle.flp_jobs.proofs.place.judge.Goals as goal
+use Rattle.flp_jobs.proofs.judge.Judge.place_fault.Goals as goal
 
 pub unreachable-requires : goal.unreachable-requires
 unreachable-requires c =

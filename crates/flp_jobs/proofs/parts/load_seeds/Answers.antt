@@ -2,7 +2,7 @@ use Rattle.std.proofs.Common.{ap, sym, ◌∙◌}
 use Rattle.flp_report.specs.declared.job_shape.JobShape.{JobShape}
 use Rattle.flp_report.specs.JobParts.{job_of, job_shape_of, seeds_in_job}
 use Rattle.flp_jobs.proofs.JobLemmas.{read-size, read-good, own-proof, shape-good, length-seeds, seeds-good}
-use Rattle.flp_jobs.proofs.words.load_seeds.Goals as goal
+use Rattle.flp_jobs.proofs.parts.load_seeds.Goals as goal
 
 pub load-requires-clause-size : goal.load-requires-clause-size
 load-requires-clause-size c =

@@ -5,7 +5,7 @@ use Rattle.flp_report.specs.declared.job_shape.JobShape.{JobShape}
 use Rattle.flp_report.specs.JobParts.{job_of, job_shape_of, input_in}
 use Rattle.flp_batch.specs.JobSetting.{input_count}
 use Rattle.flp_jobs.proofs.JobLemmas.{read-good, shape-good, input-good}
-use Rattle.flp_jobs.proofs.place.write_encoding.Goals as goal
+use Rattle.flp_jobs.proofs.parts.write_encoding.Goals as goal
 
 pub load-requires-clause-below : goal.load-requires-clause-below
 load-requires-clause-below c =

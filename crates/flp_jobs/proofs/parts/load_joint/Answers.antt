@@ -2,7 +2,7 @@ use Rattle.std.proofs.Common.{ap, sym, ◌∙◌}
 use Rattle.flp_report.specs.declared.job_shape.JobShape.{JobShape}
 use Rattle.flp_report.specs.JobParts.{job_of, job_shape_of, job_joint_in}
 use Rattle.flp_jobs.proofs.JobLemmas.{read-size, read-good, own-proof, shape-good, length-joint, joint-good}
-use Rattle.flp_jobs.proofs.place.load_joint.Goals as goal
+use Rattle.flp_jobs.proofs.parts.load_joint.Goals as goal
 
 pub load-requires-clause-size : goal.load-requires-clause-size
 load-requires-clause-size c =
