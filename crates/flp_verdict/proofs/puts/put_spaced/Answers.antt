@@ -1,7 +1,7 @@
 use Rattle.std.proofs.Common.{◌<◌, ◌++◌, ◌∙◌, ℕ, length, refl, arith, codes, decimal}
 use Rattle.std.proofs.lemmas.List.{get_or_read}
 use Rattle.flp_known.proofs.PutsLemmas.{Puts-more, Puts-stop}
-use Rattle.flp_verify.proofs.ending.put_spaced.Goals as goal
+use Rattle.flp_verdict.proofs.puts.put_spaced.Goals as goal
 
 pub returns-in_err-put_spaced_number : goal.returns-in_err-put_spaced_number
 returns-in_err-put_spaced_number g c =
