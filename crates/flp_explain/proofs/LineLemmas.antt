@@ -1,6 +1,6 @@
 -- The lines of a record, and of the proofs of a record.
 use Rattle.std.proofs.Common.{◌≡◌, ℕ, Bool, List, [], ◌++◌, sym, ap, ap₂, ◌∙◌, append_assoc}
-use Rattle.std.specs.Prelude.{Option, None, Some, Result, Ok, Err, IfOk}
+use Rattle.std.specs.Prelude.{Option, None, Some}
 use Rattle.std.specs.List.{flat_map}
 use Rattle.flp_syntax.specs.declared.syntax.Params.{Params}
 use Rattle.flp_syntax.specs.Tree.{Program}
@@ -12,10 +12,8 @@ use Rattle.flp_weak.specs.declared.word.Weak.{Weak}
 use Rattle.flp_worker.specs.Parts.{proof_numbers, unshared_encoding}
 use Rattle.flp_batch.specs.Setting.{Setting}
 use Rattle.flp_verdict.specs.Text.{spelled, line_with}
-use Rattle.flp_explain.specs.declared.explaining.Explaining.{Explaining}
-use Rattle.flp_explain.specs.Explaining.{setting_of, joint_asked}
 use Rattle.flp_explain.specs.Found.{weak_among, weak_in, encoding_in}
-use Rattle.flp_explain.specs.Text.{proof_line, joint_lines, whole_lines, lines_by_word, record_lines, words_by}
+use Rattle.flp_explain.specs.Text.{proof_line, joint_lines, whole_lines, lines_by_word, record_lines}
 
 -- what is found of the words of a record is found of the record
 pub weak-found : (program : Program) (shape : Shape) (bytes words : List ℕ) (proof : ℕ) (found : Option Weak) → words ≡ words_in shape bytes
@@ -52,9 +50,3 @@ module _ (joint : Bool) (by : Setting) (seen : Shape) (bytes : List ℕ) (same :
       (first ∙ ap₂ (λ (l : List ℕ) (s : Shape). l ++ flat_map (proof_line by.circuit s bytes) (proof_numbers s)) cleared kept)
       ∙ (ap₂ (λ (n e : List ℕ). flat_map (proof_line by.circuit by.shape bytes) (proof_numbers by.shape) ++ joint_lines joint by.params n e) named x_is
       ∙ lines-seen None good))
-
--- what is written of records is that of their setting
-pub words-same : {E : Type 0} (made : Result Explaining E) (by : Setting) (joint : Bool) → IfOk made (λ e. setting_of e ≡ by) → IfOk made (λ e. joint_asked e ≡ joint)
-    → IfOk made (λ e. words_by (joint_asked e) (setting_of e) ≡ words_by joint by)
-words-same (Ok e) by joint same asked = ap₂ words_by asked same
-words-same (Err e) by joint same asked = tt

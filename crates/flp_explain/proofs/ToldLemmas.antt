@@ -15,7 +15,7 @@ use Rattle.flp_report.specs.Record.{words_in}
 use Rattle.flp_joint.specs.Laws.{CaughtMeans}
 use Rattle.flp_worker.specs.Parts.{share_numbers, share_encoding}
 use Rattle.flp_worker.specs.Worker.{IsShapeOf}
-use Rattle.flp_explain.specs.Explaining.{IsStandard}
+use Rattle.flp_explain.specs.Standard.{IsStandard}
 use Rattle.flp_explain.specs.Found.{encoding_in}
 use Rattle.flp_explain.specs.Told.{KeepsTold}
 use Rattle.flp_explain.proofs.FalseLemmas.{has_bound}

@@ -5,6 +5,8 @@ pub mod Found
 pub mod Laws
 -- what is told of an encoding
 pub mod Told
+-- the standard circuit of a batch
+pub mod Standard
 -- the text
 pub mod Text
 -- what explains one record after another

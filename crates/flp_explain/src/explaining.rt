@@ -1,13 +1,14 @@
 //! What `explain` makes of each record of a batch.
 ghost use Rattle.std.specs.Prelude.{◌≡◌, ◌++◌, ◌<◌, [], length, vec_len, IfOk, IfSome, OnOk};
 ghost use Rattle.std.specs.List.{flat_map};
+ghost use Rattle.std.proofs.Props.{props};
 ghost use Rattle.flp_report.specs.Shape.{words_of};
 ghost use Rattle.flp_report.specs.Record.{record_of, words_in};
 ghost use Rattle.flp_worker.specs.Parts.{proof_numbers, unshared_encoding};
 ghost use Rattle.flp_worker.specs.Words.{shape_held, words_held};
 ghost use Rattle.flp_worker.specs.Worker.{IsShapeOf};
-ghost use Rattle.flp_explain.specs.Explaining.{IsStandard};
 ghost use Rattle.flp_explain.specs.Found.{weak_among};
+ghost use Rattle.flp_explain.specs.Standard.{IsStandard};
 ghost use Rattle.flp_explain.specs.Text.{proof_line};
 
 use crate::Memory;
@@ -38,7 +39,7 @@ pub(crate) struct Explaining<'a> {
     /// An unshared proof.
     proof: Vec<Fe>,
     ghost fits: { IsShapeOf loaded.now.plan.circuit shape },
-    ghost standard: { IfSome loaded.now.params (IsStandard shape.meas) },
+    ghost standard: { IfSome loaded.now.params (IsStandard shape.meas) } by { Prim.hlevel props },
     ghost for_words: { vec_len words ≡ words_of shape },
     ghost for_encoding: { vec_len encoding ≡ shape.meas },
     ghost for_proof: { vec_len proof ≡ shape.proof },
@@ -93,7 +94,8 @@ fn push_proof_lines(
 }
 
 impl<'a> Explaining<'a> {
-    ghost use Rattle.flp_explain.specs.Explaining.{setting_of, joint_asked};
+    ghost use Rattle.flp_explain.specs.Text.{words_by};
+    ghost use Rattle.flp_explain.specs.Explaining.{setting_of, wording_of};
 
     /// For the records of a batch with this circuit and shape.
     pub(crate) fn new(
@@ -104,9 +106,9 @@ impl<'a> Explaining<'a> {
     ) -> Result<Explaining<'a>, Memory>
         requires fits { IsShapeOf loaded.now.plan.circuit shape.now }
         requires standard { IfSome loaded.now.params (IsStandard shape.now.meas) }
-        ensures setting { IfOk result (λ e. setting_of e
-            ≡ record { params = loaded.now.params; circuit = loaded.now.plan.circuit; shape = shape.now; claims = [] }) }
-        ensures joint { IfOk result (λ e. joint_asked e ≡ joint) }
+        ensures shape { IfOk result (λ e. (setting_of e).shape ≡ shape.now) }
+        ensures words { IfOk result (λ e. wording_of e
+            ≡ words_by joint (record { params = loaded.now.params; circuit = loaded.now.plan.circuit; shape = shape.now; claims = [] })) }
     {
         Ok(Explaining {
             alloc,
@@ -122,12 +124,11 @@ impl<'a> Explaining<'a> {
 
 impl<'a> Judge for Explaining<'a> {
     ghost use Rattle.std.specs.Prelude.{⊤};
-    ghost use Rattle.flp_explain.specs.Text.{words_by};
-    ghost use Rattle.flp_explain.specs.Explaining.{setting_of, joint_asked};
+    ghost use Rattle.flp_explain.specs.Explaining.{setting_of, wording_of};
 
     ghost record_shape = { λ e. (setting_of e).shape };
 
-    ghost wording = { λ e. words_by (joint_asked e) (setting_of e) };
+    ghost wording = { λ e. wording_of e };
 
     ghost follows = { λ _ _. ⊤ };
 

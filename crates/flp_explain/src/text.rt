@@ -1,7 +1,7 @@
 //! The lines of a record, appended to a buffer.
 ghost use Rattle.std.specs.Prelude.{◌≡◌, ◌++◌, length, OnOk, IfSome};
 ghost use Rattle.flp_verdict.specs.Text.{line_with};
-ghost use Rattle.flp_explain.specs.Explaining.{IsStandard};
+ghost use Rattle.flp_explain.specs.Standard.{IsStandard};
 ghost use Rattle.flp_explain.specs.Text.{bounded_text, weak_text, of_proof, caught_text, of_encoding, joint_lines};
 
 use crate::Memory;
