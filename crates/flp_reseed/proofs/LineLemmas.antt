@@ -1,5 +1,5 @@
 -- Lines that are put one after another.
-use Rattle.std.proofs.Common.{◌≡◌, ℕ, suc, ◌+◌, ◌-◌, ◌<◌, ◌≤◌, List, [], ◌∷◌, ◌++◌, length, drop, get_or, Option, Some, refl, sym, ap, subst, ◌∙◌, arith, append-nil}
+use Rattle.std.proofs.Common.{◌≡◌, ℕ, suc, ◌+◌, ◌-◌, ◌<◌, ◌≤◌, List, [], ◌∷◌, ◌++◌, length, drop, get_or, Option, Some, None, refl, sym, ap, subst, ◌∙◌, arith, append-nil, codes, decimal}
 use Rattle.std.specs.Prelude.{Ok}
 use Rattle.std.specs.List.{slice_get, range_with_len, flat_map}
 use Rattle.std.proofs.lemmas.List.{drop_more, drop_all}
@@ -8,7 +8,8 @@ use Rattle.flp_io.specs.declared.failed.Failed.{Failed}
 use Rattle.flp_known.specs.Puts.{Puts}
 use Rattle.flp_known.proofs.PutsLemmas.{PutsUpTo}
 use Rattle.flp_batch.specs.JobSetting.{JobSetting}
-use Rattle.flp_reseed.specs.Text.{place_lines, hidden_lines}
+use Rattle.flp_verdict.specs.Text.{spaced}
+use Rattle.flp_reseed.specs.Text.{told, place_lines, hidden_lines}
 
 -- where nothing is left, all was put
 pub UpTo-all : {K : Type 0} {taken : K → Option (List ℕ)} {faults : K → ℕ} {ready : K → Type 0} {a b : K} {held held' text : List ℕ} (left : List ℕ) → left ≡ []
@@ -57,3 +58,14 @@ others-lines by (job ∷ more) first at =
 pub no-lines : (by : JobSetting) (jobs : List (List ℕ)) → length jobs ≡ 0 → hidden_lines by jobs ≡ []
 no-lines by [] none = refl
 no-lines by (job ∷ more) none = absurd (omega arith)
+
+-- ---- what is told of a proof
+
+-- seeds, where no query point lies in a domain
+pub told-seeds : (domain : Option ℕ) (seeds given : List ℕ) → domain ≡ None → given ≡ seeds → codes " seeds" ++ spaced given ≡ told domain seeds
+told-seeds domain seeds given none same =
+    ap (λ (l : List ℕ). codes " seeds" ++ spaced l) same ∙ sym (ap (λ (d : Option ℕ). told d seeds) none)
+
+-- or the gadget
+pub told-domain : (domain : Option ℕ) (seeds : List ℕ) (gadget : ℕ) → domain ≡ Some gadget → codes " domain " ++ decimal gadget ≡ told domain seeds
+told-domain domain seeds gadget some = sym (ap (λ (d : Option ℕ). told d seeds) some)

@@ -3,11 +3,11 @@ ghost use Rattle.std.specs.Prelude.{◌≡◌, ◌<◌, ◌++◌, None, Some, sl
 ghost use Rattle.flp_report.specs.JobParts.{jobs_in, job_of};
 ghost use Rattle.flp_known.specs.Puts.{Puts};
 ghost use Rattle.flp_jobs.specs.declared.rules.Joints.TheVariants.{First};
-ghost use Rattle.flp_jobs.specs.Encoding.{job_input, job_encoding};
+ghost use Rattle.flp_jobs.specs.Encoding.{job_input};
 ghost use Rattle.flp_jobs.specs.Place.{input_fault, bad_place};
 ghost use Rattle.flp_jobs.specs.Reading.{setting_of, IsWhole, IsJobOf};
 ghost use Rattle.flp_verdict.specs.Text.{spaced};
-ghost use Rattle.flp_reseed.specs.Room.{IsRoomOf};
+ghost use Rattle.flp_reseed.specs.Room.{IsRoomOf, HasFirst, HasBoth};
 ghost use Rattle.flp_reseed.specs.Text.{proof_told, seeds_line, place_lines, hidden_lines};
 
 use crate::room::Room;
@@ -47,15 +47,10 @@ fn put_told<K: Sink>(
     sink: &mut K,
 ) -> Result<(), Failed>
     requires ready { K.ready sink.old }
-    requires whole { IsWhole file.now }
-    requires first { IsJobOf file.now first.now }
+    requires both { HasBoth file.now first.now job.now room.old }
     requires proof { proof < file.now.shape.proofs }
-    requires room { IsRoomOf file.now room.old }
-    requires from { room.old.from.items ≡ job_encoding (setting_of file.now) (job_of first.now) }
-    requires to { room.old.to.items ≡ job_encoding (setting_of file.now) (job_of job.now) }
     ensures puts { Puts K.taken K.faults K.ready sink.old sink.new block.old block.new (proof_told (setting_of file.now) (job_of first.now) (job_of job.now) proof) result }
-    ensures kept { (room.new.from ≡ room.old.from) × (room.new.to ≡ room.old.to) }
-    ensures again { IsRoomOf file.now room.new }
+    ensures again { HasBoth file.now first.now job.now room.new }
 {
     let found = room.reseed(file, first, job, proof);
     put_number(block, sink, u64::from(proof))?;
@@ -76,16 +71,10 @@ fn put_proof<K: Sink>(
     sink: &mut K,
 ) -> Result<(), Failed>
     requires ready { K.ready sink.old }
-    requires whole { IsWhole file.now }
-    requires first { IsJobOf file.now first.now }
-    requires job { IsJobOf file.now job.now }
+    requires both { HasBoth file.now first.now job.now room.old }
     requires proof { proof < file.now.shape.proofs }
-    requires room { IsRoomOf file.now room.old }
-    requires from { room.old.from.items ≡ job_encoding (setting_of file.now) (job_of first.now) }
-    requires to { room.old.to.items ≡ job_encoding (setting_of file.now) (job_of job.now) }
     ensures puts { Puts K.taken K.faults K.ready sink.old sink.new block.old block.new (seeds_line (setting_of file.now) (job_of first.now) (job_of job.now) proof) result }
-    ensures kept { (room.new.from ≡ room.old.from) × (room.new.to ≡ room.old.to) }
-    ensures again { IsRoomOf file.now room.new }
+    ensures again { HasBoth file.now first.now job.now room.new }
 {
     put_nonce(block, sink, job.nonce())?;
     put_told(file, first, job, proof, room, block, sink)?;
@@ -102,17 +91,13 @@ fn put_place<K: Sink>(
     sink: &mut K,
 ) -> Result<(), Failed>
     requires ready { K.ready sink.old }
-    requires whole { IsWhole file.now }
-    requires first { IsJobOf file.now first.now }
+    requires has { HasFirst file.now first.now room.old }
     requires job { IsJobOf file.now job.now }
     requires taken { input_fault file.now.loaded.params (job_input file.now.shape (job_of job.now)) ≡ None }
-    requires room { IsRoomOf file.now room.old }
-    requires from { room.old.from.items ≡ job_encoding (setting_of file.now) (job_of first.now) }
     ensures puts { Puts K.taken K.faults K.ready sink.old sink.new block.old block.new (place_lines (setting_of file.now) (job_of first.now) (job_of job.now)) result }
-    ensures kept { room.new.from ≡ room.old.from }
-    ensures again { IsRoomOf file.now room.new }
+    ensures again { HasFirst file.now first.now room.new }
 {
-    room.turn_to(file, job);
+    room.turn_to(file, first, job);
     for proof in 0..file.shape.proofs {
         put_proof(file, first, job, proof, room, block, sink)?;
     }
@@ -128,12 +113,9 @@ fn put_others<K: Sink>(
     sink: &mut K,
 ) -> Result<(), Failed>
     requires ready { K.ready sink.old }
-    requires whole { IsWhole file.now }
     requires good { bad_place First (setting_of file.now) (jobs_in file.now.jobs) ≡ None }
-    requires first { IsJobOf file.now first.now }
+    requires has { HasFirst file.now first.now room.old }
     requires is_first { slice_get (jobs_in file.now.jobs) 0 ≡ Some (job_of first.now) }
-    requires room { IsRoomOf file.now room.old }
-    requires from { room.old.from.items ≡ job_encoding (setting_of file.now) (job_of first.now) }
     ensures { Puts K.taken K.faults K.ready sink.old sink.new block.old block.new (hidden_lines (setting_of file.now) (jobs_in file.now.jobs)) result }
 {
     for number in 1..file.header.reports {

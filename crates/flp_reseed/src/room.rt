@@ -2,10 +2,10 @@
 ghost use Rattle.std.specs.Prelude.{◌≡◌, ◌<◌, None, Some, IfOk, IfErr, OnOk};
 ghost use Rattle.flp_meaning.specs.Verifier.{gadget_in_domain as domain_of};
 ghost use Rattle.flp_report.specs.JobParts.{job_of};
-ghost use Rattle.flp_jobs.specs.Encoding.{job_input, job_query, job_encoding};
+ghost use Rattle.flp_jobs.specs.Encoding.{job_input, job_query};
 ghost use Rattle.flp_jobs.specs.Place.{input_fault};
 ghost use Rattle.flp_jobs.specs.Reading.{setting_of, IsWhole, IsJobOf};
-ghost use Rattle.flp_reseed.specs.Room.{IsRoomOf};
+ghost use Rattle.flp_reseed.specs.Room.{IsRoomOf, HasFirst, HasBoth};
 ghost use Rattle.flp_reseed.specs.Text.{matched_seeds};
 
 use crate::Memory;
@@ -60,27 +60,23 @@ impl Room {
         requires job { IsJobOf file.now first.now }
         requires taken { input_fault file.now.loaded.params (job_input file.now.shape (job_of first.now)) ≡ None }
         requires room { IsRoomOf file.now self.old }
-        ensures from { self.new.from.items ≡ job_encoding (setting_of file.now) (job_of first.now) }
-        ensures again { IsRoomOf file.now self.new }
+        ensures { HasFirst file.now first.now self.new }
     {
         load_encoding(file, first, &mut self.input, &mut self.from);
     }
 
     /// Encodes the measurement of another place, which is not refused.
-    pub(crate) fn turn_to(&mut self, file: &JobFile, job: &Job)
-        requires whole { IsWhole file.now }
+    pub(crate) fn turn_to(&mut self, file: &JobFile, first: &Job, job: &Job)
+        requires has { HasFirst file.now first.now self.old }
         requires job { IsJobOf file.now job.now }
         requires taken { input_fault file.now.loaded.params (job_input file.now.shape (job_of job.now)) ≡ None }
-        requires room { IsRoomOf file.now self.old }
-        ensures to { self.new.to.items ≡ job_encoding (setting_of file.now) (job_of job.now) }
-        ensures from { self.new.from ≡ self.old.from }
-        ensures again { IsRoomOf file.now self.new }
+        ensures { HasBoth file.now first.now job.now self.new }
     {
         load_encoding(file, job, &mut self.input, &mut self.to);
     }
 
-    /// Finds the seeds of a proof that match those of the first place, or tells the least gadget in whose domain a query
-    /// point of the first place lies.
+    /// Finds the seeds of a proof of a place that match those of the first place, or tells the least gadget in whose domain
+    /// a query point of the first place lies.
     pub(crate) fn reseed(
         &mut self,
         file: &JobFile,
@@ -88,18 +84,12 @@ impl Room {
         job: &Job,
         proof: u32,
     ) -> Result<(), InDomain>
-        requires whole { IsWhole file.now }
-        requires first { IsJobOf file.now first.now }
+        requires both { HasBoth file.now first.now job.now self.old }
         requires proof { proof < file.now.shape.proofs }
-        requires room { IsRoomOf file.now self.old }
-        requires from { self.old.from.items ≡ job_encoding (setting_of file.now) (job_of first.now) }
-        requires to { self.old.to.items ≡ job_encoding (setting_of file.now) (job_of job.now) }
         ensures outside { OnOk result (domain_of file.now.loaded.plan.circuit (job_query file.now.shape (job_of first.now) proof) ≡ None) }
         ensures matched { OnOk result (self.new.matched.items ≡ matched_seeds (setting_of file.now) (job_of first.now) (job_of job.now) proof) }
         ensures inside { IfErr result (λ refusal. domain_of file.now.loaded.plan.circuit (job_query file.now.shape (job_of first.now) proof) ≡ Some refusal.gadget) }
-        ensures from { self.new.from ≡ self.old.from }
-        ensures to { self.new.to ≡ self.old.to }
-        ensures again { IsRoomOf file.now self.new }
+        ensures again { HasBoth file.now first.now job.now self.new }
     {
         load_joint(file, first, proof, &mut self.joint);
         load_query(file, first, proof, &mut self.query);

@@ -19,8 +19,8 @@ begin-requires-clause-taken g c =
     let job = job_of c.job-first.result in
     input-taken (setting_of file) (first_job jobs) job c.requires.whole.setting (place-good First (setting_of file) 0 jobs job c.requires.good c.job-first.ensures.numbered)
 
-pub returns-in-true : goal.returns-in-true
-returns-in-true g c =
+pub returns-then-file-eq0 : goal.returns-then-file-eq0
+returns-then-file-eq0 g c =
     let file = c.args.file.now in
     let jobs = jobs_in file.jobs in
     let none : length jobs ≡ 0 = ? in

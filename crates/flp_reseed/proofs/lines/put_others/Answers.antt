@@ -17,7 +17,7 @@ put_place-requires-clause-taken g c =
     let file = c.args.file.now in
     let jobs = jobs_in file.jobs in
     let job = job_of c.job-job.result in
-    input-taken (setting_of file) (first_job jobs) job c.requires.whole.setting
+    input-taken (setting_of file) (first_job jobs) job c.requires.has.whole.setting
     (place-good First (setting_of file) c.loop-number.number jobs job c.requires.good c.job-job.ensures.numbered)
 
 pub loop-number-init : goal.loop-number-init
@@ -28,8 +28,7 @@ loop-number-init g c =
     record {
       puts = UpTo-none c.args.sink.now c.args.block.now (hidden_lines (setting_of file) jobs) (flat_map (place_lines (setting_of file) first) (drop 1 jobs))
           (others-lines (setting_of file) jobs first c.requires.is_first) c.requires.ready;
-      from = refl;
-      room = c.requires.room;
+      has = c.requires.has;
     }
 
 pub loop-number-preserved : goal.loop-number-preserved
@@ -42,8 +41,7 @@ loop-number-preserved g c =
     record {
       puts = UpTo-more (flat_map f (drop k jobs)) (f job) (flat_map f (drop (k + 1) jobs)) (jobs-more f jobs k job c.job-job.ensures.numbered)
           c.loop-number.invariant.puts c.in_ok-put_place.ensures.puts;
-      from = c.put_place.ensures.kept ∙ c.loop-number.invariant.from;
-      room = c.put_place.ensures.again;
+      has = c.put_place.ensures.again;
     }
 
 pub returns-in_err-put_place : goal.returns-in_err-put_place
@@ -62,6 +60,6 @@ returns g c =
     let jobs = jobs_in file.jobs in
     let f = place_lines (setting_of file) (job_of c.args.first.now) in
     let k = c.loop-number.number in
-    let count = count-jobs file c.requires.whole in
+    let count = count-jobs file c.requires.has.whole in
     let all : length jobs ≤ k = omega (arith, count, c.loop-number-test.false) in
     UpTo-all (flat_map f (drop k jobs)) (jobs-none f jobs k all) c.loop-number.invariant.puts

@@ -11,9 +11,7 @@ loop-proof-init g c =
     let text = place_lines (setting_of c.args.file.now) (job_of c.args.first.now) (job_of c.args.job.now) in
     record {
       puts = UpTo-none c.args.sink.now c.args.block.now text text refl c.requires.ready;
-      from = refl;
-      to = c.turn_to.ensures.to;
-      room = c.turn_to.ensures.again;
+      both = c.turn_to.ensures;
     }
 
 pub loop-proof-preserved : goal.loop-proof-preserved
@@ -23,9 +21,7 @@ loop-proof-preserved g c =
     let n = c.args.file.now.shape.proofs in
     record {
       puts = UpTo-more (numbers-left f k n) (f k) (numbers-left f (k + 1) n) (numbers-more f k n c.loop-proof-test.true) c.loop-proof.invariant.puts c.in_ok-put_proof.ensures.puts;
-      from = ?;
-      to = ?;
-      room = c.put_proof.ensures.again;
+      both = c.put_proof.ensures.again;
     }
 
 pub returns-in_err-put_proof-clause-puts : goal.returns-in_err-put_proof-clause-puts
