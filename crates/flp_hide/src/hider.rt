@@ -8,10 +8,10 @@ ghost use Rattle.flp_hide.specs.Laws.{Match};
 
 use crate::Memory;
 use crate::laws::verifiers;
-use crate::reader::WireReader;
+use crate::reader::{WireReader, write_wires};
 use crate::seeds::write_seeds;
 use flp_field::{Fe, laws as words_of};
-use flp_plan::Plan;
+use flp_plan::{Plan, laws};
 use flp_query::InDomain;
 use flp_query::answers::MOST_POINTS;
 use std::alloc::Global;
@@ -90,7 +90,10 @@ impl Hider {
         ensures unchanged { OnErr result (out.new ≡ out.old) }
         ensures again { self.new ≡ self.old }
     {
-        self.reader.read(plan, x, joint, seeds, words, out)?;
+        words_of::words(seeds);
+        laws::is_bounded(plan);
+        let verifier = self.reader.verifier(plan, x, joint, seeds, words)?;
+        write_wires(plan, verifier, out);
         Ok(())
     }
 
@@ -126,12 +129,16 @@ impl Hider {
         ensures again { self.new ≡ self.old }
     {
         words_of::words(seeds);
+        laws::is_bounded(plan);
         verifiers(plan);
         let low: &mut [Fe] = &mut self.low;
         let high: &mut [Fe] = &mut self.high;
-        self.reader.read(plan, from, joint, seeds, words, high)?;
+        let given = self.reader.verifier(plan, from, joint, seeds, words)?;
+        write_wires(plan, given, high);
         out.fill(Fe::ZERO);
-        self.reader.read(plan, to, joint, out, words, low)?;
+        words_of::words(out);
+        let bare = self.reader.verifier(plan, to, joint, out, words)?;
+        write_wires(plan, bare, low);
         write_seeds(plan, words, low, high, &mut self.weights, out);
         Ok(())
     }

@@ -1,14 +1,11 @@
-use Rattle.std.proofs.Common.{◌∙◌, sym}
-use Rattle.flp_weak.proofs.WeakLemmas.{bounded-answer}
+use Rattle.std.proofs.Common.{ℕ, ap, sym, subst, ◌≡◌, ◌∙◌}
+use Rattle.std.specs.Prelude.{Option, None, Some, IfSome}
+use Rattle.flp_meaning.proofs.FailingLemmas.{failing-inside}
+use Rattle.flp_weak.specs.declared.word.Weak.{Weak}
+use Rattle.flp_weak.specs.WeakWord.{lying_gadget, weak_from, weak_of}
+use Rattle.flp_weak.proofs.WeakLemmas.{inside_gadget, none-answer, bounded-answer}
 use Rattle.flp_weak.proofs.word.weak_word.Goals as goal
 
-pub returns-clause-none : goal.returns-clause-none
-returns-clause-none c = (
-  λ none. (c.valid_has_none.ensures c.args.x.now c.args.joint.now c.args.proof.now).0 (sym c.in_ok-answer.ensures ∙ none),
-  λ valid. c.in_ok-answer.ensures ∙ (c.valid_has_none.ensures c.args.x.now c.args.joint.now c.args.proof.now).1 valid,
-)
-
-pub returns-clause-bounded : goal.returns-clause-bounded
-returns-clause-bounded c =
-    bounded-answer c.args.plan.now.circuit c.args.x.now c.args.joint.now c.args.proof.now c.in_ok-answer.answer c.counted_soundness.ensures.bounded
-    (record { words = c.words.ensures; size = c.requires.proof }) c.in_ok-answer.ensures
+pub weakest-requires-clause-check : goal.weakest-requires-clause-check
+weakest-requires-clause-check c =
+    failing-inside c.args.plan.now.circuit c.args.x.now c.args.joint.now c.in-Some.check (sym c.failing_check.ensures.check ∙ c.in-Some.is)

@@ -1,0 +1,10 @@
+use Rattle.std.proofs.Common.{ℕ, List, ap₂, ◌∙◌}
+use Rattle.flp_meaning.specs.Verifier.{verifier_words}
+use Rattle.flp_hide.proofs.VerifierLemmas.{unit-of-one}
+use Rattle.flp_hide.proofs.reader.WireReader.verifier.Goals as goal
+
+pub returns-clause-honest : goal.returns-clause-honest
+returns-clause-honest c =
+    c.in_ok-query.ensures.verifier
+    ∙ ap₂ (λ (p : List ℕ) (u : ℕ). verifier_words c.args.plan.now.circuit c.args.x.now c.args.joint.now p c.args.words.now u)
+    c.prove.ensures.proof (unit-of-one c.units.ensures)
