@@ -8,7 +8,7 @@ ghost use Rattle.flp_hide.specs.Laws.{Match};
 
 use crate::Memory;
 use crate::laws::verifiers;
-use crate::reader::{WireReader, write_wires};
+use crate::reader::WireReader;
 use crate::seeds::write_seeds;
 use flp_field::{Fe, laws as words_of};
 use flp_plan::{Plan, laws};
@@ -39,9 +39,9 @@ impl Model for Hider {
 
     ghost Value = { Sizes };
 
-    ghost view = { λ hider. hider.reader };
+    ghost view = { λ hider. hider.reader.sizes };
 
-    ghost invariant = { λ hider. HoldsWires hider.reader (vec_len hider.low) (vec_len hider.high) (vec_len hider.weights) };
+    ghost invariant = { λ hider. HoldsWires hider.reader.sizes (vec_len hider.low) (vec_len hider.high) (vec_len hider.weights) };
 }
 
 impl Hider {
@@ -92,8 +92,8 @@ impl Hider {
     {
         words_of::words(seeds);
         laws::is_bounded(plan);
-        let verifier = self.reader.verifier(plan, x, joint, seeds, words)?;
-        write_wires(plan, verifier, out);
+        self.reader.make(plan, x, joint, seeds, words)?;
+        self.reader.write_wires(plan, out);
         Ok(())
     }
 
@@ -133,12 +133,12 @@ impl Hider {
         verifiers(plan);
         let low: &mut [Fe] = &mut self.low;
         let high: &mut [Fe] = &mut self.high;
-        let given = self.reader.verifier(plan, from, joint, seeds, words)?;
-        write_wires(plan, given, high);
+        self.reader.make(plan, from, joint, seeds, words)?;
+        self.reader.write_wires(plan, high);
         out.fill(Fe::ZERO);
         words_of::words(out);
-        let bare = self.reader.verifier(plan, to, joint, out, words)?;
-        write_wires(plan, bare, low);
+        self.reader.make(plan, to, joint, out, words)?;
+        self.reader.write_wires(plan, low);
         write_seeds(plan, words, low, high, &mut self.weights, out);
         Ok(())
     }

@@ -18,7 +18,7 @@ use std::marker::Model;
 
 /// Room for the verifier of an honest proof.
 ///
-/// Contracts see the sizes that it was made for.
+/// Contracts see the sizes that it was made for, and the verifier that was made last.
 #[derive(Drop)]
 pub(crate) struct WireReader {
     prover: Prover,
@@ -29,12 +29,11 @@ pub(crate) struct WireReader {
 
 impl Model for WireReader {
     ghost use Rattle.std.specs.Prelude.{vec_len};
-    ghost use Rattle.flp_plan.specs.declared.sizes.Sizes.{Sizes};
-    ghost use Rattle.flp_hide.specs.Room.{HoldsVerifier};
+    ghost use Rattle.flp_hide.specs.Room.{Reading, HoldsVerifier};
 
-    ghost Value = { Sizes };
+    ghost Value = { Reading };
 
-    ghost view = { λ reader. reader.prover };
+    ghost view = { λ reader. record { sizes = reader.prover; verifier = reader.verifier.items } };
 
     ghost invariant = { λ reader. HoldsVerifier reader.prover reader.scratch (vec_len reader.proof) (vec_len reader.verifier) };
 }
@@ -42,7 +41,7 @@ impl Model for WireReader {
 impl WireReader {
     /// Room for the proofs of a plan.
     pub(crate) fn new(alloc: Global, plan: &Plan) -> Result<WireReader, Memory>
-        ensures { IfOk result (λ reader. reader ≡ sizes_of plan.now) }
+        ensures { IfOk result (λ reader. reader.sizes ≡ sizes_of plan.now) }
     {
         let prover = Prover::new(alloc, plan)?;
         let scratch = Scratch::new(alloc, plan)?;
@@ -56,24 +55,24 @@ impl WireReader {
         })
     }
 
-    /// The verifier, on one share, of the honest proof of the encoding `x` with these seeds.
-    pub(crate) fn verifier(
+    /// Makes the verifier, on one share, of the honest proof of the encoding `x` with these seeds.
+    pub(crate) fn make(
         &mut self,
         plan: &Plan,
         x: &[Fe],
         joint: &[Fe],
         seeds: &[Fe],
         words: &[Fe],
-    ) -> Result<&[Fe], InDomain>
-        requires made { self.old ≡ sizes_of plan.now }
+    ) -> Result<(), InDomain>
+        requires made { self.old.sizes ≡ sizes_of plan.now }
         requires x { length x.now ≡ (counted_lengths plan.now.circuit).meas }
         requires joint { length joint.now ≡ (counted_lengths plan.now.circuit).joint }
         requires seeds { length seeds.now ≡ (counted_lengths plan.now.circuit).prove }
         requires words { length words.now ≡ (counted_lengths plan.now.circuit).query }
         ensures outside { OnOk result (domain_of plan.now.circuit words.now ≡ None) }
-        ensures honest { IfOk result (λ verifier. verifier.now ≡ honest_verifier plan.now.circuit x.now joint.now seeds.now words.now) }
+        ensures honest { OnOk result (self.new.verifier ≡ honest_verifier plan.now.circuit x.now joint.now seeds.now words.now) }
         ensures inside { IfErr result (λ refusal. domain_of plan.now.circuit words.now ≡ Some refusal.gadget) }
-        ensures again { self.new ≡ self.old }
+        ensures again { self.new.sizes ≡ self.old.sizes }
     {
         words_of::words(seeds);
         queries::units();
@@ -82,12 +81,21 @@ impl WireReader {
         self.prover.prove(plan, x, joint, seeds, proof);
         self.scratch
             .query(plan, x, proof, joint, words, 1, verifier)?;
-        Ok(&self.verifier)
+        Ok(())
+    }
+
+    /// Writes what the verifier has of the wires of all gadgets, one gadget after another.
+    pub(crate) fn write_wires(&self, plan: &Plan, out: &mut [Fe])
+        requires made { self.now.sizes ≡ sizes_of plan.now }
+        requires out { length out.old ≡ (counted_lengths plan.now.circuit).prove }
+        ensures { out.new ≡ flat_map (wires_of_verifier plan.now.circuit self.now.verifier) (gadgets_of plan.now.circuit) }
+    {
+        copy_wires(plan, &self.verifier, out);
     }
 }
 
-/// Writes what a verifier has of the wires of all gadgets, one gadget after another.
-pub(crate) fn write_wires(plan: &Plan, verifier: &[Fe], out: &mut [Fe])
+/// Copies what a verifier has of the wires of all gadgets, one gadget after another.
+fn copy_wires(plan: &Plan, verifier: &[Fe], out: &mut [Fe])
     requires verifier { length verifier.now ≡ (counted_lengths plan.now.circuit).verifier }
     requires out { length out.old ≡ (counted_lengths plan.now.circuit).prove }
     ensures { out.new ≡ flat_map (wires_of_verifier plan.now.circuit verifier.now) (gadgets_of plan.now.circuit) }

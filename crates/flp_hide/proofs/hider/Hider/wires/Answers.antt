@@ -3,5 +3,5 @@ use Rattle.flp_hide.proofs.hider.Hider.wires.Goals as goal
 
 pub returns-clause-wires : goal.returns-clause-wires
 returns-clause-wires c =
-    read-wires c.args.plan.now.circuit c.args.x.now c.args.joint.now c.args.seeds.now c.args.words.now c.in_ok-verifier.verifier.now c.write_wires.new.out
-    c.is_bounded.ensures (record { words = c.words.ensures; size = c.requires.seeds }) c.in_ok-verifier.ensures.honest c.write_wires.ensures
+    read-wires c.args.plan.now.circuit c.args.x.now c.args.joint.now c.args.seeds.now c.args.words.now c.make.new.self.verifier c.write_wires.new.out
+    c.is_bounded.ensures (record { words = c.words.ensures; size = c.requires.seeds }) c.in_ok-make.ensures.honest c.write_wires.ensures

@@ -1,1 +1,0 @@
-use Rattle.flp_weak.proofs.word.weakest.Goals as goal
