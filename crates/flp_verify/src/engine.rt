@@ -30,7 +30,7 @@ use crate::marks::mark;
 use crate::numbers::Numbers;
 use crate::room::Room;
 use crate::telling::tell_segment;
-use flp_batch::EngineFault;
+use flp_batch::{EngineFault, read_end, read_segment};
 use flp_io::{Sink, Source};
 use flp_known::Known;
 use flp_policy::{Floor, Policy};
@@ -192,13 +192,18 @@ pub(crate) fn verify_records<R: Threads + Sync, S: Source, K: Sink, G: Gate>(
     flp_pool::laws::nothing_is_taken();
     flp_pool::laws::runs_join();
     let reports = front.header.reports;
-    let most = front.shape.segment();
     let mut settled = 0;
     while settled < reports {
-        let count = most.min(reports - settled);
-        if let Err(fault) = reader.segment(count, &mut room.segment) {
-            return Err(EngineFault::from(fault));
-        }
+        let count = match read_segment(
+            reader,
+            &front.header,
+            &front.shape,
+            settled,
+            &mut room.segment,
+        ) {
+            Ok(count) => count,
+            Err(fault) => return Err(fault),
+        };
         if let Err(fault) = pass_segment(
             rt, alloc, front, settled, count, room, ledger, output, gate, policies,
         ) {
@@ -206,8 +211,5 @@ pub(crate) fn verify_records<R: Threads + Sync, S: Source, K: Sink, G: Gate>(
         }
         settled += count;
     }
-    match reader.end() {
-        Ok(()) => Ok(()),
-        Err(fault) => Err(EngineFault::from(fault)),
-    }
+    read_end(reader)
 }
