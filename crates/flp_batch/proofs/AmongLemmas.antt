@@ -33,6 +33,21 @@ use Rattle.flp_batch.proofs.CutLemmas.{settled-cut, settled-most, NextFits, Read
 use Rattle.flp_batch.proofs.FaultLemmas.{fault_from-write, segment-behind}
 use Rattle.flp_batch.proofs.WalkLemmas.{Judges-few, Judges-end, Stops-before, records-refused, records-trailing}
 
+-- ---- numbers
+
+-- the first records and the others, and a byte more
+all-bytes : (done more n size : ℕ) → done + more ≡ n → done * size + (more * size + 1) ≤ n * size + 1
+all-bytes done more n size is =
+    let parts : done * size + more * size ≡ (done + more) * size = omega arith in
+    let sum : done * size + more * size ≡ n * size = parts ∙ ap (λ (k : ℕ). k * size) is in
+    omega (arith, sum)
+
+-- a segment among the others
+some-bytes : (count more size : ℕ) → count ≤ more → count * size ≤ more * size + 1
+some-bytes count more size few =
+    let most : count * size ≤ more * size = mul-le-mul_right size few in
+    omega (arith, most)
+
 -- ---- how the reading fails
 
 -- where a segment was not read, its fault is the first, whatever stands in front
@@ -56,12 +71,11 @@ segment-fails given shape header done count place begins whole f left left' same
     let size = bytes_of shape in
     let fails = subst (λ (x : Shape). ReadFails x count place begins whole f left left') same answered in
     let rest : count ≤ header.reports - done = omega (arith, next.fits) in
-    let most : count * size ≤ (header.reports - done) * size = mul-le-mul_right size rest in
     record {
       behind = segment-behind shape place begins count whole f fails.3;
       of_input = fault_from-write f;
       first = segment-first header shape done count place begins whole f left one some next.fits p b w fails.2;
-      few = ConsumesAtMost-raised (count * size) ((header.reports - done) * size + 1) left left' fails.0 (omega (arith, most));
+      few = ConsumesAtMost-raised (count * size) ((header.reports - done) * size + 1) left left' fails.0 (some-bytes count (header.reports - done) size rest);
       cut = λ input.
           let less = few-read shape count place begins whole f left left' one some next.some fails input in
           record {
@@ -76,11 +90,11 @@ end-case : (header : Header) (shape : Shape) (left left' : Option (List ℕ)) (f
     → ((before : List (List ℕ)) → length before ≡ header.reports → All (λ r. length r ≡ bytes_of shape) before
     → IfFile fault (λ f. IfSome left (λ rest. IsFaultAmong header shape (concat before ++ rest) f)))
     → Fails header shape header.reports left left' fault
-end-case header shape left left' fault behind read some first =
+end-case header shape left left' fault behind unwritten some first =
     let most = settled-most shape (min header.reports (header.reports + length some.bytes / bytes_of shape)) in
     record {
       behind = behind;
-      of_input = read;
+      of_input = unwritten;
       first = first;
       few = ConsumesAtMost-raised 1 ((header.reports - header.reports) * bytes_of shape + 1) left left' some (omega arith);
       cut = λ input. record { bytes = some.bytes; gone = some.gone; least = omega (arith, most) };
@@ -147,11 +161,9 @@ module _ (header : Header) (shape : Shape) (done : ℕ) (line : List (List ℕ) 
       let size = bytes_of shape in
       let more = header.reports - done in
       let whole : done + more ≡ header.reports = omega (arith, within) in
-      let parts : done * size + more * size ≡ (done + more) * size = omega arith in
-      let sum : done * size + more * size ≡ header.reports * size = parts ∙ ap (λ (n : ℕ). n * size) whole in
       record {
         fault = Fails-fault fault all fails;
-        few = Judges-few size done (header.reports * size + 1) line follows left left' left'' taken taken' (more * size + 1) all fails.few (omega (arith, sum));
+        few = Judges-few size done (header.reports * size + 1) line follows left left' left'' taken taken' (more * size + 1) all fails.few (all-bytes done more header.reports size whole);
         read = λ is.
             let same : fault ≡ Read = cc in
             let rose = uses.cause (lost same) in
@@ -223,5 +235,5 @@ module _ {S T : Type 0} (reader : BatchReader S) (header : Header) (shape : Shap
     later_out = later_out;
   }
   Ends-ended faults ready old new went_on (Err fault) reads writes writes' whole among all none fails uses later_in later_out =
-      Ends-fails header shape header.reports line follows left left' left'' taken taken' faults ready old new (Err {A = T} fault ≡ Err Read) went_on fault reads writes writes'
+      Ends-fails header shape header.reports line follows left left' left'' taken taken' faults ready old new _ went_on fault reads writes writes'
       (all-judged whole all) (omega arith) (fails-then fault whole among fails) uses (λ is. ap Err is) later_in later_out

@@ -7,7 +7,7 @@ ghost use Rattle.flp_io.specs.Writes.{TakesPrefix};
 ghost use Rattle.flp_report.specs.Buckets.{HasBucket};
 ghost use Rattle.flp_report.specs.Nonces.{nonces_in};
 ghost use Rattle.flp_report.specs.Reader.{source_of, SameLoan};
-ghost use Rattle.flp_report.specs.Segment.{shape_in, used_in, records_in};
+ghost use Rattle.flp_report.specs.Segment.{used_in, records_in};
 ghost use Rattle.flp_report.specs.Shape.{bytes_of};
 ghost use Rattle.flp_policy.specs.Counts.{VerdictCounts, no_more};
 ghost use Rattle.flp_known.specs.Known.{known_in};
@@ -20,7 +20,7 @@ ghost use Rattle.flp_batch.specs.Front.{IsAtRecords};
 ghost use Rattle.flp_batch.specs.Opened.{IsRecordsFault, records_size};
 ghost use Rattle.flp_batch.specs.Walk.{Judges, Breaks};
 ghost use Rattle.flp_verify.specs.Numbers.{counts_in};
-ghost use Rattle.flp_verify.specs.Settled.{IsRoomFor, IsBoardFor, IsBetween, IsBehind, Advances, standing, setting_with, opened_with, found_lines};
+ghost use Rattle.flp_verify.specs.Settled.{IsRoomFor, IsBoardFor, IsBetween, IsRound, IsBehind, Advances, standing, setting_with, opened_with, found_lines};
 ghost use Rattle.flp_verify.specs.Text.{verdict_line};
 
 use crate::board::Board;
@@ -80,10 +80,7 @@ fn verify_round<R: Threads + Sync, G: Gate>(
     crew: &mut Crew,
     gate: &G,
 ) -> Board
-    requires segment { (shape_in segment.now ≡ front.now.shape) × (used_in segment.now ≡ count) }
-    requires places { (count ≤ length marks.now) × (count ≤ room_of crew.old) × (first + count ≤ front.now.header.reports) }
-    requires buckets { All (HasBucket front.now.shape) (records_in segment.now) }
-    requires crew { IsCrewFor front.now.loaded.plan front.now.shape crew.old × (workers_of crew.old ≡ front.now.workers) }
+    requires round { IsRound front.now first count segment.now marks.now crew.old }
     requires board { IsBoardFor front.now board }
     requires free { LacksRange first front.now.header.reports board.seat.view.claimed }
     ensures board { IsBoardFor front.now result }

@@ -43,6 +43,20 @@ returns-in_err-mark-clause-front g c = OnErr-always c.from_residual.result (Take
 pub returns-in_err-board-clause-front : goal.returns-in_err-board-clause-front
 returns-in_err-board-clause-front g c = OnErr-always c.from_residual-in_err-board.result (TakesPrefix-refl (g.K.Sink.taken c.args.output.now) _)
 
+pub verify_round-board-requires-clause-round : goal.verify_round-board-requires-clause-round
+verify_round-board-requires-clause-round g c κs within =
+    let before = c.requires.between.room in
+    record {
+      shape = before.shape;
+      used = c.requires.count.0;
+      buckets = c.requires.buckets;
+      fits = c.requires.count.1;
+      marked = search rules;
+      made = before.crew;
+      room = search rules;
+      workers = before.workers;
+    }
+
 pub verify_round-board-requires-clause-free : goal.verify_round-board-requires-clause-free
 verify_round-board-requires-clause-free g c κs within =
     let seen : c.in_ok-board.board.seat.view ≡ seen_by c.args.front.now c.args.ledger.now.board = search rules in
