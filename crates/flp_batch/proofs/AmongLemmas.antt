@@ -199,7 +199,7 @@ module _ (header : Header) (shape : Shape) (done : ℕ) (line : List (List ℕ) 
       }
 
 -- at the end of the input, whatever it answers, where the records that were judged are all
-module _ {S T : Type 0} (reader : BatchReader S) (header : Header) (shape : Shape) (done : ℕ) (line : List (List ℕ) → List ℕ → List ℕ) (follows : List (List ℕ) → Type 0) (left left' left'' taken taken' : Option (List ℕ)) where
+module _ {S : Type 0} (reader : BatchReader S) (header : Header) (shape : Shape) (done : ℕ) (line : List (List ℕ) → List ℕ → List ℕ) (follows : List (List ℕ) → Type 0) (left left' left'' taken taken' : Option (List ℕ)) where
   -- what `read_end` says of its fault
   abbrev FailsThen : EngineFault → Type 0
   FailsThen fault = (h : Header) (s : Shape) → IsAmong reader h s h.reports → Fails h s h.reports left' left'' fault
@@ -210,18 +210,18 @@ module _ {S T : Type 0} (reader : BatchReader S) (header : Header) (shape : Shap
   fails-then : (fault : EngineFault) → done ≡ header.reports → IsAmong reader header shape done → FailsThen fault → Fails header shape header.reports left' left'' fault
   fails-then fault whole among fails = fails header shape (subst (λ (k : ℕ). IsAmong reader header shape k) whole among)
 
-  pub Judges-ended : (r : Result T EngineFault) → done ≡ header.reports → Judges (bytes_of shape) done line follows left left' taken taken' → OnOk r (Consumes left' left'' [])
+  pub Judges-ended : {T : Type 0} (r : Result T EngineFault) → done ≡ header.reports → Judges (bytes_of shape) done line follows left left' taken taken' → OnOk r (Consumes left' left'' [])
       → OnOk r (Judges (bytes_of shape) header.reports line follows left left'' taken taken')
   Judges-ended (Ok x) whole all none = Judges-end (bytes_of shape) header.reports line follows left left' left'' taken taken' (all-judged whole all) none
   Judges-ended (Err fault) whole all none = tt
 
-  pub Breaks-ended : (r : Result T EngineFault) → done ≡ header.reports → IsAmong reader header shape done → Judges (bytes_of shape) done line follows left left' taken taken' → IfErr r FailsThen
+  pub Breaks-ended : {T : Type 0} (r : Result T EngineFault) → done ≡ header.reports → IsAmong reader header shape done → Judges (bytes_of shape) done line follows left left' taken taken' → IfErr r FailsThen
       → IfErr r (λ fault. Breaks fault shape header.reports line left left'' taken taken')
   Breaks-ended (Ok x) whole among all fails = tt
   Breaks-ended (Err fault) whole among all fails =
       Fails-breaks header shape header.reports line follows left left' left'' taken taken' fault (all-judged whole all) (omega arith) (fails-then fault whole among fails)
 
-  pub Ends-ended : {R : Type 0} (faults : R → ℕ) (ready : R → Type 0) (old new : R) (went_on : Type 0) (r : Result T EngineFault) (reads writes writes' : ℕ)
+  pub Ends-ended : {T R : Type 0} (faults : R → ℕ) (ready : R → Type 0) (old new : R) (went_on : Type 0) (r : Result T EngineFault) (reads writes writes' : ℕ)
       → done ≡ header.reports → IsAmong reader header shape done → Judges (bytes_of shape) done line follows left left' taken taken' → OnOk r (Consumes left' left'' []) → IfErr r FailsThen
       → Uses faults ready old new (r ≡ Err Read) went_on → reads ≤ faults old → writes ≤ writes'
       → Ends (IsFaultAmong header shape) (ConsumesAtMost (header.reports * bytes_of shape + 1)) left left'' reads (faults new) writes writes' r

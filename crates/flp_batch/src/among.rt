@@ -58,7 +58,7 @@ pub fn read_end<S: Source>(reader: &mut BatchReader<'_, S>) -> Result<(), Engine
     ensures none_read { OnOk result (Consumes (S.left (source_of reader.old)) (S.left (source_of reader.new)) []) }
     ensures fails { IfErr result (λ fault. (header : Head) (shape : Form) → IsAmong reader.old header shape header.reports
         → Fails header shape header.reports (S.left (source_of reader.old)) (S.left (source_of reader.new)) fault) }
-    ensures source { Uses S.faults S.ready (source_of reader.old) (source_of reader.new) (result ≡ Err EngineFault.Read) (IsOk result) }
+    ensures source { Uses S.faults S.ready (source_of reader.old) (source_of reader.new) (result ≡ Err EngineFault.Read) ⊥ }
 {
     match reader.end() {
         Ok(()) => Ok(()),

@@ -13,7 +13,7 @@ use Rattle.flp_meaning.specs.Gadgets.{gadgets_of, arity_of}
 use Rattle.flp_meaning.specs.Lengths.{start_of, verifier_part}
 use Rattle.flp_meaning.specs.Wires.{wires_of}
 use Rattle.flp_meaning.specs.Proof.{words_at, seeds_for, polynomial_in, honest_proof, with_proof}
-use Rattle.flp_meaning.specs.Verifier.{point_of, gadget_in_domain, check_of, verifier_of, verifier_words}
+use Rattle.flp_meaning.specs.Verifier.{point_of, gadget_in_domain, check_of, verifier_of}
 use Rattle.flp_meaning.specs.ProofLaws.{IsBounded, AreSeeds, Holds}
 use Rattle.flp_meaning.proofs.Honest.{honest_proof_has_parts, honest_proof_proves}
 use Rattle.flp_meaning.proofs.Decisions.{decisions_mean}

@@ -6,6 +6,7 @@ use Rattle.flp_report.specs.Reader.{source_of, shape_given, reports_given, repor
 use Rattle.flp_report.specs.Segment.{shape_in, used_in, held_in, records_in}
 use Rattle.flp_report.specs.Shape.{bytes_of, segment_of}
 use Rattle.flp_report.proofs.SegmentLemmas.{IsCut-held}
+use Rattle.flp_batch.specs.Among.{Fails}
 use Rattle.flp_batch.specs.Front.{records_begin}
 use Rattle.flp_batch.proofs.AmongLemmas.{segment-fails}
 use Rattle.flp_batch.proofs.CutLemmas.{segment-fits, segments-next}
@@ -50,3 +51,19 @@ returns-in-Ok-clause-among g c =
 
 pub returns-in-Ok-clause-holds : goal.returns-in-Ok-clause-holds
 returns-in-Ok-clause-holds g c = (c.in-Ok.ensures.used, cut_in c.segment-2.new.room c.args.shape.now c.min-count.result (c.in-Ok.ensures.room.0 ∙ c.requires.room.0) c.in-Ok.ensures.used)
+
+pub returns-in-Err-clause-fails : goal.returns-in-Err-clause-fails
+returns-in-Err-clause-fails g c =
+    let before = c.requires.among in
+    let read = c.in-Err.ensures in
+    let reader = c.args.reader.now in
+    let n = c.args.header.now.reports in
+    let done = c.args.done in
+    let count = c.min-count.result in
+    let first : count ≡ min c.segment.result (n - done) = first_of (grind arith, omega arith, search rules) in
+    let next = segment-fits c.args.shape.now n done count c.requires.left (first ∙ ap (λ (m : ℕ). min m (n - done)) c.segment.ensures) in
+    let number : reports_read reader ≡ done = omega (arith, before.all, before.left) in
+    subst (Fails c.args.header.now c.args.shape.now done (g.S.Source.left (source_of reader)) (g.S.Source.left (source_of c.segment-2.new.self))) (sym c.from.ensures)
+    (segment-fails (shape_given reader) c.args.shape.now c.args.header.now done count (reports_read reader) (place_of reader) (size_of_file reader) c.in-Err.fault _ _
+    before.given before.one before.bucket (before.segments c.requires.left) next number before.place before.size
+    (read.source.bytes, λ failed. read.lost (ap Err failed), read.fault, read.kind))

@@ -34,13 +34,14 @@ returns-in_err-block-clause-ends g c =
 pub loop-judged-init : goal.loop-judged-init
 loop-judged-init g c =
     let o = c.args.opened.now in
+    let first : c.min.result ≡ min c.segment.result o.header.reports = first_of (grind arith, omega arith, search rules) in
     record {
       number = refl;
       among = among-none c.args.reader.now o.header o.shape c.requires.ready;
       all = Judges-none (bytes_of o.shape) _ (g.J.Judge.follows c.args.judge.now) (g.S.Source.left (source_of c.args.reader.now)) (g.K.Sink.taken c.args.output.now) c.requires.new.fresh;
       same = refl;
       room_shape = c.in_ok-room.ensures.shape;
-      room = ?;
+      room = c.in_ok-room.ensures.room ∙ (first ∙ ap (λ (m : ℕ). min m o.header.reports) c.segment.ensures);
       held = c.in_ok-block.ensures;
       judges = c.requires.new.shape_is;
       wording = refl;
@@ -55,7 +56,7 @@ pub loop-judged-preserved : goal.loop-judged-preserved
 loop-judged-preserved g c =
     let before = c.loop-judged.invariant in
     let read = c.in-Ok.ensures in
-    let wrote = c.in_default-judge_segment.ensures in
+    let wrote = c.in_default.ensures in
     let o = c.args.opened.now in
     let room = c.read_segment.new.room in
     record {

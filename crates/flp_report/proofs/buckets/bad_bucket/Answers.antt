@@ -9,13 +9,13 @@ use Rattle.flp_report.proofs.BucketLemmas.{bucket_from-good, bucket_from-bad, bu
 use Rattle.flp_report.proofs.buckets.bad_bucket.Goals as goal
 
 -- the bucket of the record that stands at this index
-bucket-at : (s : Shape) (size k bucket : ℕ) (bytes : List ℕ) (record : Record) → size ≡ bytes_of s → record_of record ≡ take (size * k + size - size * k) (drop (size * k) bytes)
-    → shape_of record ≡ s → bucket ≡ bucket_in (shape_of record) (record_of record) → bucket ≡ bucket_in s (piece (bytes_of s) k bytes)
-bucket-at s size k bucket bytes record sized is own read =
+bucket-at : (s : Shape) (size k bucket : ℕ) (bytes : List ℕ) (given : Record) → size ≡ bytes_of s → record_of given ≡ take (size * k + size - size * k) (drop (size * k) bytes)
+    → shape_of given ≡ s → bucket ≡ bucket_in (shape_of given) (record_of given) → bucket ≡ bucket_in s (piece (bytes_of s) k bytes)
+bucket-at s size k bucket bytes given sized is own read =
     let length_of : size * k + size - size * k ≡ size = omega arith in
-    let given : record_of record ≡ piece (bytes_of s) k bytes =
+    let cut : record_of given ≡ piece (bytes_of s) k bytes =
     is ∙ (ap (λ (n : ℕ). take n (drop (size * k) bytes)) length_of ∙ ap (λ (n : ℕ). take n (drop (n * k) bytes)) sized) in
-    read ∙ (λ i. bucket_in (own i) (given i))
+    read ∙ (λ i. bucket_in (own i) (cut i))
 
 pub returns-then-bucket-shape : goal.returns-then-bucket-shape
 returns-then-bucket-shape c =
