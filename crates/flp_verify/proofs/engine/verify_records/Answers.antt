@@ -7,6 +7,7 @@ use Rattle.flp_report.specs.Reader.{source_of}
 use Rattle.flp_known.specs.Known.{known_in}
 use Rattle.flp_batch.proofs.AmongLemmas.{Fails-breaks, Ends-fails, Ends-lines, Judges-ended, Breaks-ended, Ends-ended}
 use Rattle.flp_batch.proofs.CutLemmas.{write-breaks}
+use Rattle.flp_batch.proofs.OutcomeLemmas.{OnOk-always}
 use Rattle.flp_batch.proofs.ReaderLemmas.{among-none}
 use Rattle.flp_batch.proofs.WalkLemmas.{Judges-none, Judges-more}
 use Rattle.flp_verify.specs.Settled.{IsBetween, IsBehind, Advances, standing}
@@ -51,7 +52,7 @@ pub loop-settled-preserved : goal.loop-settled-preserved
 loop-settled-preserved g c =
     let before = c.loop-settled.invariant in
     let read = c.in-Ok.ensures in
-    let passed = c.in_default-pass_segment.ensures in
+    let passed = c.in_default.ensures in
     let front = c.args.front.now in
     let size = bytes_of front.shape in
     let i = c.loop-settled.settled in
@@ -105,7 +106,10 @@ returns-in-Err-pass_segment-clause-ends g c =
     before.all read.holds.1 read.records read.among.1.within passed.cause passed.sink (ap Err) (omega (arith, before.later_in, read.source.later)) before.later_out
 
 pub returns-clause-between : goal.returns-clause-between
-returns-clause-between g c = ?
+returns-clause-between g c =
+    let before = c.loop-settled.invariant in
+    let whole : c.loop-settled.settled ≡ c.args.front.now.header.reports = omega (arith, before.among.within) in
+    OnOk-always c.read_end.result (subst (λ (n : ℕ). IsBetween c.args.front.now n c.loop-settled.room c.loop-settled.ledger) whole before.between)
 
 pub returns-clause-done : goal.returns-clause-done
 returns-clause-done g c =
