@@ -1,0 +1,8 @@
+-- the words that are taken
+mod SequenceLemmas
+-- the measurements of the places
+mod InputLemmas
+-- how long a record is
+mod RecordLemmas
+-- what is made is a batch
+mod LawLemmas
