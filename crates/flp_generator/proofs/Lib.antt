@@ -6,3 +6,5 @@ mod InputLemmas
 mod RecordLemmas
 -- what is made is a batch
 mod LawLemmas
+-- the words that are made
+mod MakerLemmas
