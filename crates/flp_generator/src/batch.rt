@@ -72,7 +72,13 @@ fn size_of(plan: &Plan, text: usize, reports: u32) -> Result<usize, u64>
 }
 
 /// Writes the records of all places to a sink that has room for them.
-fn write_records<K: Sink>(loaded: &Loaded, maker: &mut Maker, seed: u32, reports: u32, output: &mut K)
+fn write_records<K: Sink>(
+    loaded: &Loaded,
+    maker: &mut Maker,
+    seed: u32,
+    reports: u32,
+    output: &mut K,
+)
     requires circuit { IsCircuitOf loaded.now.params loaded.now.plan.circuit }
     requires at { IsAt loaded.now seed 0 maker.old }
     requires writable { K.ready output.old }
@@ -90,7 +96,14 @@ fn write_records<K: Sink>(loaded: &Loaded, maker: &mut Maker, seed: u32, reports
 }
 
 /// Writes the batch to a sink that has room for it.
-fn write_batch<K: Sink>(text: Bytes, loaded: &Loaded, maker: &mut Maker, seed: u32, reports: u32, output: &mut K)
+fn write_batch<K: Sink>(
+    text: Bytes,
+    loaded: &Loaded,
+    maker: &mut Maker,
+    seed: u32,
+    reports: u32,
+    output: &mut K,
+)
     requires text { length text ≤ 65536 }
     requires circuit { IsCircuitOf loaded.now.params loaded.now.plan.circuit }
     requires at { IsAt loaded.now seed 0 maker.old }
