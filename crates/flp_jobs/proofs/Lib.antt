@@ -19,7 +19,7 @@ mod PlaceLemmas
 -- what was written, by the bytes of the file
 mod ReplyLemmas
 -- what the text says of the jobs
-mod SettingLemmas
+pub mod SettingLemmas
 -- records one after another
 mod RecordLemmas
 -- measurements that are not refused

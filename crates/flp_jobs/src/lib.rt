@@ -14,6 +14,7 @@
 //! |---|---|
 //! | make the batch of a job file | [`prove`] |
 //! | say why there is none | [`ProveFault`], [`PlaceFault`] |
+//! | bring words out of the field | [`write_numbers`] |
 //! | know that no file has two answers, and that a batch is read again as honest reports | [`laws`] |
 //!
 //! Memory is taken for the whole job file, its circuit and one record, before anything is written.
@@ -29,6 +30,7 @@ mod words;
 
 pub use command::prove;
 pub use fault::{PlaceFault, ProveFault};
+pub use words::write_numbers;
 
 /// Want of memory, as std's allocators answer it.
 pub use std::alloc::AllocError as Memory;

@@ -1,0 +1,25 @@
+-- What is made is a batch, of the circuit of its text and with the records of all places.
+use Rattle.std.specs.Prelude.{ℕ, ◌≡◌, ◌<◌, ◌^◌, List, [], Option, None, length}
+use Rattle.flp_syntax.specs.declared.syntax.Params.{Params}
+use Rattle.flp_syntax.specs.Tree.{Program}
+use Rattle.flp_load.specs.Loaded.{IsLoaded}
+use Rattle.flp_report.specs.Batch.{whole_records}
+use Rattle.flp_batch.specs.Setting.{Setting}
+use Rattle.flp_batch.specs.Format.{newest_read}
+use Rattle.flp_batch.specs.File.{IsBatch}
+use Rattle.flp_generator.specs.Batch.{trial_shape, trial_records, trial_batch, too_large}
+
+-- what its records are judged by
+abbrev pub trial_setting : Program → Setting
+trial_setting circuit = record { circuit = circuit; shape = trial_shape circuit; claims = [] }
+
+pub record IsTrialBatch (text : List ℕ) (params : Option Params) (circuit : Program) (seed reports : ℕ) : Type 0 where
+  pub is_batch : IsBatch None (trial_batch text params circuit seed reports) params (trial_setting circuit)
+  pub records : whole_records newest_read None (trial_shape circuit) (trial_batch text params circuit seed reports) ≡ trial_records params circuit seed reports
+
+-- where it is not too large
+abbrev pub TrialsAreBatches : Type 0
+TrialsAreBatches =
+    (text : List ℕ) (params : Option Params) (circuit : Program) (seed reports : ℕ) → IsLoaded text params circuit
+    → reports < 2 ^ 32 → too_large circuit (length text) reports ≡ None
+    → IsTrialBatch text params circuit seed reports
