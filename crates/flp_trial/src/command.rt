@@ -1,5 +1,5 @@
 //! The command `trial`: from a circuit text to the summary of a batch of it.
-ghost use Rattle.std.specs.Prelude.{◌≡◌, ◌≤◌, None, Option, List, ℕ, Err, IfErr, IfOk, OnOk, length};
+ghost use Rattle.std.specs.Prelude.{◌≡◌, ◌≤◌, None, IfErr, IfOk, OnOk};
 ghost use Rattle.flp_batch.specs.Ends.{Ends};
 ghost use Rattle.flp_io.specs.Reads.{ConsumesAtMost};
 ghost use Rattle.flp_load.specs.Loaded.{IsLoaded};
@@ -11,7 +11,7 @@ use crate::lines::make_lines;
 use crate::summary::summarize;
 use flp_batch::EngineFault;
 use flp_generator::{GeneratorFault, make_batch};
-use flp_io::{Sink, Source, put};
+use flp_io::{Sink, Source, SureSource, put};
 use flp_lengths::{CircuitText, read_circuit};
 use flp_pool::Gate;
 use flp_report::BatchFault;
@@ -21,16 +21,17 @@ use std::thread::Threads;
 /// The batch of a circuit's trial.
 fn make_trial(
     alloc: Global,
-    circuit: &CircuitText,
+    circuit: CircuitText,
     seed: u32,
     reports: u32,
-) -> Result<Vec<u8>, EngineFault>
-    requires loaded { IsLoaded circuit.now.text circuit.now.loaded.params circuit.now.loaded.plan.circuit }
-    ensures batch { IfOk result (λ batch. batch.items ≡ trial_batch circuit.now.text circuit.now.loaded.params circuit.now.loaded.plan.circuit seed reports) }
-    ensures fits { OnOk result (size_fault circuit.now.loaded.plan.circuit circuit.now.text reports ≡ None) }
-    ensures fault { IfErr result (FailsToTry circuit.now.loaded.plan.circuit circuit.now.text reports) }
+) -> Result<SureSource, EngineFault>
+    requires loaded { IsLoaded circuit.text circuit.loaded.params circuit.loaded.plan.circuit }
+    ensures batch { IfOk result (λ batch. batch ≡ trial_batch circuit.text circuit.loaded.params circuit.loaded.plan.circuit seed reports) }
+    ensures fits { OnOk result (size_fault circuit.loaded.plan.circuit circuit.text reports ≡ None) }
+    ensures fault { IfErr result (FailsToTry circuit.loaded.plan.circuit circuit.text reports) }
 {
-    match make_batch(alloc, circuit, seed, reports) {
+    let CircuitText { text, loaded } = circuit;
+    match make_batch(alloc, text, &loaded, seed, reports) {
         Ok(batch) => Ok(batch),
         Err(GeneratorFault::Memory) => Err(EngineFault::Memory),
         Err(GeneratorFault::TooLarge(bytes)) => {
@@ -43,19 +44,19 @@ fn make_trial(
 fn try_circuit<R: Threads + Sync, G: Gate>(
     rt: &R,
     alloc: Global,
-    circuit: &CircuitText,
+    circuit: CircuitText,
     seed: u32,
     reports: u32,
     workers: u32,
     gate: &G,
 ) -> Result<Vec<u8>, EngineFault>
-    requires loaded { IsLoaded circuit.now.text circuit.now.loaded.params circuit.now.loaded.plan.circuit }
+    requires loaded { IsLoaded circuit.text circuit.loaded.params circuit.loaded.plan.circuit }
     requires workers { (1 ≤ workers) × (workers ≤ 16) }
-    ensures text { IfOk result (λ text. text.items ≡ trial_text circuit.now.loaded.params circuit.now.loaded.plan.circuit seed reports) }
-    ensures fits { OnOk result (size_fault circuit.now.loaded.plan.circuit circuit.now.text reports ≡ None) }
-    ensures fault { IfErr result (FailsToTry circuit.now.loaded.plan.circuit circuit.now.text reports) }
+    ensures text { IfOk result (λ text. text.items ≡ trial_text circuit.loaded.params circuit.loaded.plan.circuit seed reports) }
+    ensures fits { OnOk result (size_fault circuit.loaded.plan.circuit circuit.text reports ≡ None) }
+    ensures fault { IfErr result (FailsToTry circuit.loaded.plan.circuit circuit.text reports) }
 {
-    flp_generator::laws::reads_back();
+    flp_generator::laws::trials_are_batches();
     let batch = make_trial(alloc, circuit, seed, reports)?;
     let summary = summarize(rt, alloc, batch, workers, gate)?;
     match make_lines(alloc, &summary) {
@@ -95,7 +96,7 @@ pub fn trial<R: Threads + Sync, S: Source, K: Sink, G: Gate>(
     ensures ends { Ends (IsFaultOfTrial reports) (ConsumesAtMost 65537) (S.left input.old) (S.left input.new) (S.faults input.old) (S.faults input.new) (K.faults output.old) (K.faults output.new) result }
 {
     let circuit = read_circuit(alloc, input)?;
-    let text = try_circuit(rt, alloc, &circuit, seed, reports, workers, gate)?;
+    let text = try_circuit(rt, alloc, circuit, seed, reports, workers, gate)?;
     match put(output, &text) {
         Ok(()) => Ok(()),
         Err(_) => Err(EngineFault::Write),

@@ -15,28 +15,27 @@ use flp_verify::{Summary, finish, verify_batch};
 use std::alloc::Global;
 use std::thread::Threads;
 
-/// Verifies these bytes by so many workers, each of which passes `gate` at its points, and sums the batch up.
+/// Verifies the batch by so many workers, each of which passes `gate` at its points, and sums it up.
 ///
 /// Of bytes that are a batch the only fault is [`EngineFault::Memory`].
 pub(crate) fn summarize<R: Threads + Sync, G: Gate>(
     rt: &R,
     alloc: Global,
-    batch: Vec<u8>,
+    mut batch: SureSource,
     workers: u32,
     gate: &G,
 ) -> Result<Summary, EngineFault>
     requires workers { (1 ≤ workers) × (workers ≤ 16) }
-    ensures summary { (params : Option Params) (by : Setting) → IsBatch None batch.items params by → IfOk result (Summarizes by (records_on batch.items by)) }
-    ensures fault { (params : Option Params) (by : Setting) → IsBatch None batch.items params by → IfErr result (λ fault. fault ≡ OutOfMemory) }
+    ensures summary { (params : Option Params) (by : Setting) → IsBatch None batch params by → IfOk result (Summarizes by (records_on batch by)) }
+    ensures fault { (params : Option Params) (by : Setting) → IsBatch None batch params by → IfErr result (λ fault. fault ≡ OutOfMemory) }
 {
     flp_batch::laws::one_answer();
     flp_verify::laws::totals_are_aggregate();
-    let mut source = SureSource::new(batch);
     let mut policies: Vec<Box<dyn Policy>> = Vec::new(alloc);
     let counted = match verify_batch(
         rt,
         alloc,
-        &mut source,
+        &mut batch,
         &mut NullSink,
         workers,
         0,
