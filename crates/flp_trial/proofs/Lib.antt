@@ -4,3 +4,11 @@ pub mod SummaryLemmas
 pub mod ReplyLemmas
 -- no input has two replies
 pub mod LawLemmas
+-- which places are replayed
+mod NonceLemmas
+-- what is found at a place, by the words of its record
+mod FoundLemmas
+-- places where nothing is changed
+mod HonestPlaces
+-- what is found at each place
+mod PlaceLemmas

@@ -7,3 +7,5 @@ pub mod Summary
 pub mod Reply
 -- that an input has one reply
 pub mod Laws
+-- what is found at each place
+pub mod Places
