@@ -1,5 +1,5 @@
 //! What a place encodes.
-ghost use Rattle.std.specs.Prelude.{◌≡◌, ◌+◌, ◌≤◌, ◌<◌, ◌^◌, length, IfSome};
+ghost use Rattle.std.specs.Prelude.{◌≡◌, ◌+◌, ◌≤◌, ◌<◌, ◌^◌, ◌%◌, length, IfSome};
 ghost use Rattle.flp_circuits.specs.Sizes.{input_len_of, meas_len_of, Fits};
 ghost use Rattle.flp_circuits.specs.Encoding.{encoding_of};
 ghost use Rattle.flp_plan.specs.Counted.{counted_lengths};
@@ -64,17 +64,20 @@ fn write_measured(params: &Params, k: u64, numbers: &mut [u64], x: &mut [Fe])
     }
 }
 
+/// The word 0 or 1 that a number is modulo 2.
+fn bit(number: u64) -> Fe
+    ensures { result ≡ number % 2 }
+{
+    if number % 2 == 0 { Fe::ZERO } else { Fe::ONE }
+}
+
 /// Writes 0 and 1 in turn to `x`: to place j the word k + j modulo 2.
 fn write_turns(k: u64, x: &mut [Fe])
     requires { k + length x.old < 2 ^ 64 }
     ensures { x.new ≡ residues 2 (length x.old) k }
 {
     for (j, word) in x.iter_mut().enumerate() {
-        *word = if (k + j as u64) % 2 == 0 {
-            Fe::ZERO
-        } else {
-            Fe::ONE
-        };
+        *word = bit(k + j as u64);
     }
 }
 

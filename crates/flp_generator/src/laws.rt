@@ -5,4 +5,6 @@ ghost use Rattle.flp_generator.specs.Laws.{TrialsAreBatches};
 /// What is made is a batch of the circuit of its text, with the records of all places.
 pub fn trials_are_batches()
     ensures { TrialsAreBatches }
-{}
+{
+    flp_load::laws::loaded_is_bounded();
+}
