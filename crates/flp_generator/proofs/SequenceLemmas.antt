@@ -1,13 +1,17 @@
 -- The words that are taken, one after the other.
 use Rattle.std.proofs.Common.{ℕ, suc, ◌+◌, ◌*◌, ◌%◌, ◌^◌, ◌<◌, ◌≤◌, ◌≡◌, List, [], ◌∷◌, ◌++◌, length, map, take, set, refl, sym, ap, ap₂, ◌∙◌, arith}
 use Rattle.std.specs.List.{range_with_len}
-use Rattle.std.proofs.Math.Nat.{pow-suc}
+use Rattle.std.proofs.Math.Nat.{pow-suc, mul-le-mul}
+use Rattle.std.proofs.lemmas.Nat.{pow-mod}
 use Rattle.std.proofs.lemmas.List.{take_more_set}
 use Rattle.std.proofs.lemmas.List.Elements.{All-map}
 use Rattle.std.proofs.lemmas.List.FromFn.{length-map-range_with_len, map-range_with_len_more}
 use Rattle.flp_field.specs.Word.{modulus, IsWord, AreWords, word_power, word_product}
+use Rattle.flp_field.proofs.Powers.{pow-pow}
+use Rattle.flp_field.proofs.Order.{group_size, group_size_is, seven_order}
 use Rattle.flp_field.proofs.Congruence.{mod_word, same_mod, same_mul}
 use Rattle.flp_generator.specs.Sequence.{sequence_word, sequence_words}
+use Rattle.flp_generator.specs.Laws.{WordsStayOut}
 
 -- a word times 7 is the next
 pub next-word : (seed index : ℕ) → word_product (sequence_word seed index) 7 ≡ sequence_word seed (index + 1)
@@ -35,3 +39,14 @@ pub next-taken : (seed start index next : ℕ) → next ≡ sequence_word seed (
 next-taken seed start index next is =
     let e : (start + index) + 1 ≡ start + (index + 1) = omega arith in
     ap (λ (n : ℕ). word_product n 7) is ∙ (next-word seed (start + index) ∙ ap (sequence_word seed) e)
+
+-- ---- no domain has them
+
+pub stays_out : WordsStayOut
+stays_out seed index size few some small is =
+    let e = seed + 1 + index in
+    let least : 1 * 1 ≤ e * size = mul-le-mul (omega arith) some in
+    let most : e * size ≤ 2 ^ 50 * 4096 = mul-le-mul few small in
+    let inside : e * size < group_size = omega (arith, group_size_is, most) in
+    let one : 7 ^ (e * size) % modulus ≡ 1 = ap (λ (n : ℕ). n % modulus) (sym (pow-pow 7 e size)) ∙ (sym (pow-mod (7 ^ e) size modulus) ∙ is) in
+    seven_order (e * size) (omega (arith, least)) inside one

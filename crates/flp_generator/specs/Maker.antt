@@ -10,7 +10,7 @@ use Rattle.flp_generator.specs.Sequence.{sequence_word, part_of, taken_by_place}
 use Rattle.flp_generator.specs.Batch.{trial_shape}
 
 -- it has the room that a record of this circuit takes
-pub record HasRoom (loaded : Loaded) (maker : Maker) : Type 0 where
+pub record IsMadeFor (loaded : Loaded) (maker : Maker) : Type 0 where
   pub prover : maker.prover ≡ sizes_of loaded.plan
   pub taken : vec_len maker.taken ≡ taken_by_place (counted_lengths loaded.plan.circuit)
   pub numbers : IfSome loaded.params (λ params. vec_len maker.numbers ≡ input_len_of params)
@@ -20,5 +20,5 @@ pub record HasRoom (loaded : Loaded) (maker : Maker) : Type 0 where
 
 -- and the next word that is taken is the first of this place
 pub record IsAt (loaded : Loaded) (seed place : ℕ) (maker : Maker) : Type 0 where
-  pub room : HasRoom loaded maker
+  pub room : IsMadeFor loaded maker
   pub next : maker.sequence.next ≡ sequence_word seed (place * taken_by_place (counted_lengths loaded.plan.circuit))

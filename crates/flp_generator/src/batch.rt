@@ -1,12 +1,12 @@
 //! The batch, made in memory.
-ghost use Rattle.std.specs.Prelude.{◌≡◌, ◌++◌, ℕ, Some, None, length, IfOk, IfErr, OnOk, map};
+ghost use Rattle.std.specs.Prelude.{◌≡◌, ◌≤◌, ◌*◌, ◌++◌, None, length, IfOk, IfErr, OnOk};
 ghost use Rattle.std.specs.List.{concat};
 ghost use Rattle.std.specs.Io.KnownBytes.{Appends};
-ghost use Rattle.std.specs.Option.{option_map};
 ghost use Rattle.std.specs.Result.{result_err};
 ghost use Rattle.flp_io.specs.Writes.{HasRoom};
 ghost use Rattle.flp_load.specs.Loaded.{IsLoaded};
 ghost use Rattle.flp_report.specs.Layout.{head_bytes};
+ghost use Rattle.flp_report.specs.Shape.{bytes_of};
 ghost use Rattle.flp_jobs.specs.Setting.{IsCircuitOf};
 ghost use Rattle.flp_generator.specs.Batch.{trial_shape, trial_header, trial_records, trial_batch, trial_size, too_large, IsGeneratorFault};
 ghost use Rattle.flp_generator.specs.Maker.{IsAt};
@@ -17,7 +17,7 @@ use crate::place::nonce_of;
 use flp_io::{MemorySink, Sink, SureSource};
 use flp_list::Bytes;
 use flp_load::Loaded;
-use flp_plan::Plan;
+use flp_plan::{Plan, laws};
 use flp_report::{FILE_LIMIT, Header, RECORD_LIMIT, Shape, write_head, write_record};
 use std::alloc::Global;
 
@@ -77,9 +77,10 @@ fn write_records<K: Sink>(loaded: &Loaded, maker: &mut Maker, seed: u32, reports
     requires circuit { IsCircuitOf loaded.now.params loaded.now.plan.circuit }
     requires at { IsAt loaded.now seed 0 maker.old }
     requires writable { K.ready output.old }
-    requires room { HasRoom (K.spare output.old) (length (concat (trial_records loaded.now.params loaded.now.plan.circuit seed reports))) }
+    requires room { HasRoom (K.spare output.old) (reports * bytes_of (trial_shape loaded.now.plan.circuit)) }
     ensures { Appends (K.taken output.old) (K.taken output.new) (concat (trial_records loaded.now.params loaded.now.plan.circuit seed reports)) }
 {
+    laws::is_bounded(&loaded.plan);
     for place in 0..reports {
         maker.make(loaded, seed, place);
         match write_record(output, &nonce_of(seed, place), None, maker.words()) {
@@ -95,7 +96,7 @@ fn write_batch<K: Sink>(header: &Header, loaded: &Loaded, maker: &mut Maker, see
     requires circuit { IsCircuitOf loaded.now.params loaded.now.plan.circuit }
     requires at { IsAt loaded.now seed 0 maker.old }
     requires writable { K.ready output.old }
-    requires room { HasRoom (K.spare output.old) (length (head_bytes header.now ++ concat (trial_records loaded.now.params loaded.now.plan.circuit seed header.now.reports))) }
+    requires room { HasRoom (K.spare output.old) (trial_size loaded.now.plan.circuit (length header.now.text) header.now.reports) }
     ensures { Appends (K.taken output.old) (K.taken output.new) (head_bytes header.now ++ concat (trial_records loaded.now.params loaded.now.plan.circuit seed header.now.reports)) }
 {
     match write_head(output, header) {

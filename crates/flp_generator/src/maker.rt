@@ -1,5 +1,6 @@
 //! What makes the records of all places, one after another.
-ghost use Rattle.std.specs.Prelude.{◌≡◌, ◌+◌, ◌<◌, ◌^◌, IfOk};
+ghost use Rattle.std.specs.Prelude.{◌≡◌, ◌+◌, IfOk, IfSome};
+ghost use Rattle.flp_circuits.specs.Sizes.{input_len_of};
 ghost use Rattle.flp_jobs.specs.Setting.{IsCircuitOf};
 ghost use Rattle.flp_generator.specs.Maker.{IsAt};
 ghost use Rattle.flp_generator.specs.Place.{trial_words};
@@ -15,6 +16,7 @@ use flp_share::split;
 use std::alloc::Global;
 
 /// Room for making records, made once and used for each place, and where the places stand in the sequence of words.
+#[derive(Drop)]
 pub(crate) struct Maker {
     sequence: Sequence,
     prover: Prover,

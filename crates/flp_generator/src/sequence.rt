@@ -7,6 +7,7 @@ use flp_field::Fe;
 use flp_plan::Lengths;
 
 /// Powers of 7, one after the other.
+#[derive(Clone, Copy)]
 pub(crate) struct Sequence {
     /// The word that is taken next.
     next: Fe,
@@ -42,6 +43,7 @@ fn seven() -> Fe
 }
 
 /// The words that a place takes, by what they are for.
+#[derive(Clone, Copy)]
 pub(crate) struct Taken<'a> {
     pub(crate) joint: &'a [Fe],
     pub(crate) seeds: &'a [Fe],

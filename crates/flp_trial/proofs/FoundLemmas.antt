@@ -9,10 +9,8 @@ use Rattle.std.proofs.lemmas.List.Elements.{All-append, All-take, All-drop, All-
 use Rattle.std.proofs.lemmas.List.FromFn.{get_or-map-range_with_len}
 use Rattle.std.proofs.lemmas.List.Sums.{sum_by-le-sum_by}
 use Rattle.flp_field.specs.Word.{modulus, IsWord, AreWords, word_power, word_sum}
-use Rattle.flp_field.specs.Order.{SevenHasOrder}
 use Rattle.flp_field.specs.Sums.{sum_of_parts}
-use Rattle.flp_field.proofs.Congruence.{same_mod, same_pow, mod_word}
-use Rattle.flp_field.proofs.Powers.{pow-pow, one-pow}
+use Rattle.flp_field.proofs.Powers.{one-pow}
 use Rattle.flp_field.proofs.WordLists.{none-from_words}
 use Rattle.flp_share.specs.Shares.{shares_of}
 use Rattle.flp_share.proofs.Sharings.{words-shares_of}
@@ -44,22 +42,20 @@ use Rattle.flp_generator.specs.Sequence.{sequence_word, part_of, taken_by_place,
 use Rattle.flp_generator.specs.Input.{trial_encoding}
 use Rattle.flp_generator.specs.Change.{change_at}
 use Rattle.flp_generator.specs.Place.{honest_words, changed_words, first_point, unshared_words, trial_words, trial_nonce, trial_record}
-use Rattle.flp_generator.specs.Batch.{trial_shape, trial_size, too_large}
+use Rattle.flp_generator.specs.Batch.{trial_shape}
+use Rattle.flp_generator.specs.Laws.{WordsStayOut}
 use Rattle.flp_generator.proofs.SequenceLemmas.{words-sequence, length-sequence}
 use Rattle.flp_generator.proofs.RecordLemmas.{length-joint, length-query, length-honest, length-shares}
 
--- ---- powers of 7
+-- ---- domains
 
--- no power of 7 with an exponent up to 2^51 lies in a domain of up to 4,096 points
-outside-domain : SevenHasOrder → (e log : ℕ) → 0 < e → e < 2 ^ 51 → log ≤ 12 → word_power (word_power 7 e) (2 ^ log) ≢ 1
-outside-domain order e log some few small is =
-    let most : 2 ^ log ≤ 2 ^ 12 = pow-le-pow_right (omega arith) small in
-    let least : 2 ^ 0 ≤ 2 ^ log = pow-le-pow_right (omega arith) (omega arith) in
-    let above : e * 2 ^ log ≤ e * 4096 = mul-le-mul_left e most in
-    let below : e * 1 ≤ e * 2 ^ log = mul-le-mul_left e least in
-    let power : word_power (word_power 7 e) (2 ^ log) ≡ word_power 7 (e * 2 ^ log) =
-    same_pow (word_power 7 e) (7 ^ e) (2 ^ log) (same_mod (7 ^ e)) ∙ ap (λ (n : ℕ). n % modulus) (pow-pow 7 e (2 ^ log)) in
-    (order 18446744069414584320 refl).first (e * 2 ^ log) (omega (arith, some, below)) (omega (arith, few, above)) (sym power ∙ is)
+-- the domain of a gadget has 1 to 4,096 points
+domain-size : (circuit : Program) (gadget : ℕ) → IsBounded circuit → gadget < length circuit.gadgets → (1 ≤ size_of circuit gadget) × (size_of circuit gadget ≤ 4096)
+domain-size circuit gadget bounded inside =
+    let small : log_of circuit gadget ≤ 12 = (domains_hold circuit gadget bounded inside).0 in
+    let least : 2 ^ 0 ≤ 2 ^ log_of circuit gadget = pow-le-pow_right (omega arith) (omega arith) in
+    let most : 2 ^ log_of circuit gadget ≤ 2 ^ 12 = pow-le-pow_right (omega arith) small in
+    (least, most)
 
 -- ---- the first gadget in a domain
 
@@ -211,20 +207,20 @@ module _ (params : Option Params) (circuit : Program) (is : IsCircuitOf params c
       let seeds : lengths.prove ≤ lengths.proof = sum_by-le-sum_by (arity_of circuit) (proof_part circuit) (gadgets_of circuit) (λ (gadget : ℕ). omega arith) in
       omega (arith, seeds)
 
-  pub points-outside : SevenHasOrder → (reports : ℕ) → place < reports → seed < 2 ^ 32 → reports * bytes_of shape ≤ 1073741824
+  pub points-outside : WordsStayOut → (reports : ℕ) → place < reports → seed < 2 ^ 32 → reports * bytes_of shape ≤ 1073741824
       → gadget_in_domain circuit (query_taken lengths taken) ≡ None
-  points-outside order reports below small size =
+  points-outside out reports below small size =
       let query : List ℕ = query_taken lengths taken in
-      let tbp : ℕ = taken_by_place lengths in
-      let all : reports * tbp ≤ reports * bytes_of shape = mul-le-mul_left reports few-taken in
-      let own : place * tbp + tbp ≤ reports * tbp = part-fits place reports tbp below in
+      let count : ℕ = taken_by_place lengths in
+      let all : reports * count ≤ reports * bytes_of shape = mul-le-mul_left reports few-taken in
+      let own : place * count + count ≤ reports * count = part-fits place reports count below in
       first-fails (λ gadget. word_power (point_of circuit query gadget) (size_of circuit gadget) == 1) 0 (length circuit.gadgets)
       (λ (k : ℕ) (from : 0 ≤ k) (inside : k < 0 + length circuit.gadgets).
       let at : ℕ = check_words circuit + k in
-      let index : ℕ = place * tbp + (lengths.joint + (lengths.prove + (part_of lengths + at))) in
+      let behind : ℕ = lengths.joint + (lengths.prove + (part_of lengths + at)) in
       let here : at < lengths.query = omega (arith, queries, inside) in
-      let limit : index < place * tbp + tbp = omega (arith, here) in
-      let domain : log_of circuit k ≤ 12 = (domains_hold circuit k bounded (omega (arith, inside))).0 in
+      let limit : behind < count = omega (arith, here) in
+      let domain = domain-size circuit k bounded (omega (arith, inside)) in
       ne_eqb (word_power (point_of circuit query k) (size_of circuit k)) 1
-      (λ is. outside-domain order (seed + 1 + index) (log_of circuit k) (omega arith) (omega (arith, small, limit, own, all, size)) domain
-      (ap (λ (w : ℕ). word_power w (2 ^ log_of circuit k)) (sym (query-word at here)) ∙ is)))
+      (λ is. out seed (place * count + behind) (size_of circuit k) (omega (arith, small, limit, own, all, size)) domain.0 domain.1
+      (ap (λ (w : ℕ). word_power w (size_of circuit k)) (sym (query-word at here)) ∙ is)))

@@ -2,7 +2,6 @@
 use Rattle.std.proofs.Common.{ℕ, ◌≡◌, ◌≢◌, ◌+◌, ◌*◌, ◌%◌, ◌^◌, ◌<◌, ◌≤◌, Bool, true, false, cond, ltb, List, [], length, Option, Some, None, refl, sym, ap, subst, ◌∙◌, arith}
 use Rattle.std.specs.Option.{option_map}
 use Rattle.std.proofs.lemmas.Bool.{ltb-false}
-use Rattle.flp_field.specs.Order.{SevenHasOrder}
 use Rattle.flp_syntax.specs.declared.syntax.Params.{Params}
 use Rattle.flp_syntax.specs.Tree.{Program}
 use Rattle.flp_meaning.specs.Circuit.{IsValid}
@@ -30,6 +29,7 @@ use Rattle.flp_generator.specs.Input.{measurement, trial_encoding}
 use Rattle.flp_generator.specs.Change.{change_at}
 use Rattle.flp_generator.specs.Place.{honest_words, trial_record}
 use Rattle.flp_generator.specs.Batch.{trial_shape, trial_records, trial_size, too_large}
+use Rattle.flp_generator.specs.Laws.{WordsStayOut}
 use Rattle.flp_generator.proofs.InputLemmas.{measured}
 use Rattle.flp_trial.specs.Places.{IsTried, IsValidAt, trial_verdict, FindsAt, PlacesAreFound, StandardIsValid}
 use Rattle.flp_trial.proofs.NonceLemmas.{change-at, nothing-first, length-records, record-at, replayed, not_replayed, own-verdict}
@@ -75,7 +75,7 @@ accepted-of circuit report Replayed honest none = absurd honest
 -- ---- all places
 
 module _ (text : List ℕ) (params : Option Params) (circuit : Program) (seed reports place : ℕ) (tried : IsTried text params circuit seed reports) (below : place < reports)
-    (bounds : LoadedIsBounded) (order : SevenHasOrder) (once : JudgesOnce circuit (trial_shape circuit) [] (trial_records params circuit seed reports))
+    (bounds : LoadedIsBounded) (out : WordsStayOut) (once : JudgesOnce circuit (trial_shape circuit) [] (trial_records params circuit seed reports))
     (accepts : AcceptsHonest circuit (trial_shape circuit) [] (trial_records params circuit seed reports)) where
   is : IsCircuitOf params circuit
   is = circuit-of text params circuit tried.loaded
@@ -102,7 +102,7 @@ module _ (text : List ℕ) (params : Option Params) (circuit : Program) (seed re
       let query : query_words shape (words_in shape report) 0 ≡ query_taken (counted_lengths circuit) (words_taken (counted_lengths circuit) seed place) =
       ap (λ (ws : List ℕ). query_words shape ws 0) read ∙ kept-query params circuit is bounded seed place in
       let outside : gadget_in_domain circuit (query_words shape (words_in shape report) 0) ≡ None =
-      ap (gadget_in_domain circuit) query ∙ points-outside params circuit is bounded seed place order reports below tried.small_seed size in
+      ap (gadget_in_domain circuit) query ∙ points-outside params circuit is bounded seed place out reports below tried.small_seed size in
       let inside : place < length (trial_records params circuit seed reports) =
       omega (arith, length-records params circuit seed reports tried.small_seed tried.few_reports, below) in
       accepted-of circuit report (trial_verdict params circuit seed reports place) (accepts place inside new good honest) outside

@@ -19,9 +19,9 @@ pub fn places()
     ensures found { PlacesAreFound }
     ensures standard { StandardIsValid }
 {
-    flp_field::laws::order_of_seven();
     flp_circuits::laws::encodings();
     flp_load::laws::loaded_is_bounded();
     flp_verdict::laws::once();
     flp_verdict::laws::honest();
+    flp_generator::laws::words_stay_out();
 }

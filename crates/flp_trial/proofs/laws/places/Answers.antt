@@ -5,7 +5,7 @@ use Rattle.flp_trial.proofs.laws.places.Goals as goal
 
 pub returns-clause-found : goal.returns-clause-found
 returns-clause-found c = λ text params circuit seed reports place tried below.
-    finds text params circuit seed reports place tried below c.loaded_is_bounded.ensures c.order_of_seven.ensures
+    finds text params circuit seed reports place tried below c.loaded_is_bounded.ensures c.words_stay_out.ensures
     (c.once.ensures circuit (trial_shape circuit) [] (trial_records params circuit seed reports))
     (c.honest.ensures circuit (c.loaded_is_bounded.ensures text params circuit tried.loaded) (trial_shape circuit) [] (trial_records params circuit seed reports))
 
