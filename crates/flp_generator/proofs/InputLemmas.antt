@@ -36,101 +36,99 @@ residues-below modulo count k some =
 
 -- ---- how many are 1
 
--- 1 where the number modulo the length is below this
-hit : (length below : ℕ) → ℕ → ℕ
-hit length below j = cond (ltb (j % length) below) 1 0
+-- 1 where the number modulo the count is below this
+abbrev hit : (count below : ℕ) → ℕ → ℕ
+hit count below j = cond (ltb (j % count) below) 1 0
 
 -- that of so many numbers from this one on
-hits : (length below first count : ℕ) → List ℕ
-hits length below first count = map (hit length below) (range_with_len first count)
+abbrev hits : (count below first many : ℕ) → List ℕ
+hits count below first many = map (hit count below) (range_with_len first many)
 
-hit-bit : (length below j : ℕ) → hit length below j < 2
-hit-bit length below j = bit (ltb (j % length) below)
+hit-bit : (count below j : ℕ) → hit count below j < 2
+hit-bit count below j = bit (ltb (j % count) below)
   where
     bit : (b : Bool) → cond b 1 0 < 2
     bit true = omega arith
     bit false = omega arith
 
 -- k added to each number is k added to the first
-hits-moved : (length below k first count : ℕ) → map (λ j. hit length below (j + k)) (range_with_len first count) ≡ hits length below (first + k) count
-hits-moved length below k first zero = refl
-hits-moved length below k first (suc count) =
+hits-moved : (count below k first many : ℕ) → map (λ j. hit count below (j + k)) (range_with_len first many) ≡ hits count below (first + k) many
+hits-moved count below k first zero = refl
+hits-moved count below k first (suc many) =
     let next : (first + 1) + k ≡ (first + k) + 1 = omega arith in
-    ap (λ (l : List ℕ). hit length below (first + k) ∷ l)
-    (hits-moved length below k (first + 1) count ∙ ap (λ (a : ℕ). hits length below a count) next)
+    ap (λ (l : List ℕ). hit count below (first + k) ∷ l)
+    (hits-moved count below k (first + 1) many ∙ ap (λ (a : ℕ). hits count below a many) next)
 
 -- as many from the next number on are as many
-hits-turned : (length below k : ℕ) → sum (hits length below (k + 1) length) ≡ sum (hits length below k length)
-hits-turned length below k =
-    let f = hit length below in
+hits-turned : (count below k : ℕ) → sum (hits count below (k + 1) count) ≡ sum (hits count below k count)
+hits-turned count below k =
+    let f = hit count below in
     let id = λ (n : ℕ). n in
-    let more : sum (hits length below k (length + 1)) ≡ sum (hits length below k length) + f (k + length) =
-    sum_by-map-range_with_len_more id f k length (k + length) refl in
-    let plus : hits length below k (length + 1) ≡ f k ∷ hits length below (k + 1) length =
-    ap (λ (n : ℕ). hits length below k n) (let e : length + 1 ≡ suc length = omega arith in e) in
-    let cons : sum (f k ∷ hits length below (k + 1) length) ≡ f k + sum (hits length below (k + 1) length) = sum_by-cons id (f k) (hits length below (k + 1) length) in
-    let same : f (k + length) ≡ f k = ap (λ (n : ℕ). cond (ltb n below) 1 0) (add-mod_right k length) in
-    let both : f k + sum (hits length below (k + 1) length) ≡ sum (hits length below k length) + f k =
-    sym cons ∙ (ap sum (sym plus) ∙ (more ∙ ap (λ (n : ℕ). sum (hits length below k length) + n) same)) in
+    let more : sum (hits count below k (count + 1)) ≡ sum (hits count below k count) + f (k + count) =
+    sum_by-map-range_with_len_more id f k count (k + count) refl in
+    let plus : hits count below k (count + 1) ≡ f k ∷ hits count below (k + 1) count =
+    ap (λ (n : ℕ). hits count below k n) (let e : count + 1 ≡ suc count = omega arith in e) in
+    let cons : sum (f k ∷ hits count below (k + 1) count) ≡ f k + sum (hits count below (k + 1) count) = sum_by-cons id (f k) (hits count below (k + 1) count) in
+    let same : f (k + count) ≡ f k = ap (λ (n : ℕ). cond (ltb n below) 1 0) (add-mod_right k count) in
+    let both : f k + sum (hits count below (k + 1) count) ≡ sum (hits count below k count) + f k =
+    sym cons ∙ (ap sum (sym plus) ∙ (more ∙ ap (λ (n : ℕ). sum (hits count below k count) + n) same)) in
     omega (arith, both)
 
-hits-all : (length below k : ℕ) → sum (hits length below k length) ≡ sum (hits length below 0 length)
-hits-all length below zero = refl
-hits-all length below (suc k) =
+hits-all : (count below k : ℕ) → sum (hits count below k count) ≡ sum (hits count below 0 count)
+hits-all count below zero = refl
+hits-all count below (suc k) =
     let e : suc k ≡ k + 1 = omega arith in
-    ap (λ (n : ℕ). sum (hits length below n length)) e ∙ (hits-turned length below k ∙ hits-all length below k)
+    ap (λ (n : ℕ). sum (hits count below n count)) e ∙ (hits-turned count below k ∙ hits-all count below k)
 
 -- of the first numbers, those that are hit are the numbers below
-one-hit : (b : Bool) (n m : ℕ) → cond b 1 0 ≤ 1
-one-hit true n m = omega arith
-one-hit false n m = omega arith
-
-hits-first : (length below m : ℕ) → m ≤ length → (sum (hits length below 0 m) ≤ m) × (sum (hits length below 0 m) ≤ below)
-hits-first length below zero few = (omega arith, omega arith)
-hits-first length below (suc m) few =
-    let f = hit length below in
-    let before = hits-first length below m (omega arith) in
+hits-first : (count below m : ℕ) → m ≤ count → (sum (hits count below 0 m) ≤ m) × (sum (hits count below 0 m) ≤ below)
+hits-first count below zero few = (omega arith, omega arith)
+hits-first count below (suc m) few =
+    let f = hit count below in
+    let before = hits-first count below m (omega arith) in
     let e : suc m ≡ m + 1 = omega arith in
-    let inside : m % length ≡ m = mod-eq_of_lt {m} {length} few in
+    let inside : m % count ≡ m = mod-eq_of_lt few in
     let here : f m ≡ cond (ltb m below) 1 0 = ap (λ (n : ℕ). cond (ltb n below) 1 0) inside in
-    let more : sum (hits length below 0 (suc m)) ≡ sum (hits length below 0 m) + cond (ltb m below) 1 0 =
-    ap (λ (n : ℕ). sum (hits length below 0 n)) e
-    ∙ (sum_by-map-range_with_len_more (λ (n : ℕ). n) f 0 m m refl ∙ ap (λ (n : ℕ). sum (hits length below 0 m) + n) here) in
+    let more : sum (hits count below 0 (suc m)) ≡ sum (hits count below 0 m) + cond (ltb m below) 1 0 =
+    ap (λ (n : ℕ). sum (hits count below 0 n)) e
+    ∙ (sum_by-map-range_with_len_more (λ (n : ℕ). n) f 0 m m (omega arith) ∙ ap (λ (n : ℕ). sum (hits count below 0 m) + n) here) in
     ⊎_elim
     (λ (low : m < below).
-    let all : sum (hits length below 0 (suc m)) ≡ sum (hits length below 0 m) + 1 = more ∙ ap (λ (b : Bool). sum (hits length below 0 m) + cond b 1 0) (lt-ltb m below low) in
+    let all : sum (hits count below 0 (suc m)) ≡ sum (hits count below 0 m) + 1 = more ∙ ap (λ (b : Bool). sum (hits count below 0 m) + cond b 1 0) (lt-ltb m below low) in
     (omega (arith, all, before.0), omega (arith, all, before.0, low)))
     (λ (high : below ≤ m).
-    let all : sum (hits length below 0 (suc m)) ≡ sum (hits length below 0 m) + 0 = more ∙ ap (λ (b : Bool). sum (hits length below 0 m) + cond b 1 0) (le-ltb m below high) in
+    let all : sum (hits count below 0 (suc m)) ≡ sum (hits count below 0 m) + 0 = more ∙ ap (λ (b : Bool). sum (hits count below 0 m) + cond b 1 0) (le-ltb m below high) in
     (omega (arith, all, before.0), omega (arith, all, before.1)))
     (cases_lt m below)
 
-ones-are : (length below k : ℕ) → ones_below length below k ≡ hits length below k length
-ones-are length below k = hits-moved length below k 0 length
+ones-are : (count below k : ℕ) → ones_below count below k ≡ hits count below k count
+ones-are count below k =
+    let e : 0 + k ≡ k = omega arith in
+    hits-moved count below k 0 count ∙ ap (λ (first : ℕ). hits count below first count) e
 
-ones-bits : (length below k : ℕ) → All (λ n. n < 2) (ones_below length below k)
-ones-bits length below k =
-    All-map (λ n. n < 2) (λ j. hit length below (j + k)) (range_with_len 0 length) (λ (i d : ℕ) (inside : i < _). hit-bit length below _)
+ones-bits : (count below k : ℕ) → All (λ n. n < 2) (ones_below count below k)
+ones-bits count below k =
+    All-map (λ n. n < 2) (λ j. hit count below (j + k)) (range_with_len 0 count) (λ (i d : ℕ) (inside : i < _). hit-bit count below _)
 
-ones-few : (length below k : ℕ) → weight_of (ones_below length below k) ≤ below
-ones-few length below k =
-    let all = weight_of-bits (ones_below length below k) (ones-bits length below k) in
-    let same : sum (ones_below length below k) ≡ sum (hits length below 0 length) = ap sum (ones-are length below k) ∙ hits-all length below k in
-    omega (arith, all, same, (hits-first length below length (omega arith)).1)
+ones-few : (count below k : ℕ) → weight_of (ones_below count below k) ≤ below
+ones-few count below k =
+    let all = weight_of-bits (ones_below count below k) (ones-bits count below k) in
+    let same : sum (ones_below count below k) ≡ sum (hits count below 0 count) = ap sum (ones-are count below k) ∙ hits-all count below k in
+    omega (arith, all, same, (hits-first count below count (omega arith)).1)
 
 -- ---- the measurements
 
 pub measured : (params : Params) (k : ℕ) → Fits params → meas_fault params (measurement params k) ≡ None
 measured Count k fits = not_refused Count (k % 2 ∷ []) refl (one-below 2 (k % 2) (omega arith)) refl
 measured (Sum max) k fits = not_refused (Sum max) (k % suc max ∷ []) refl (one-below (suc max) (k % suc max) (omega arith)) refl
-measured (SumVec length bits chunk) k fits =
-    not_refused (SumVec length bits chunk) (residues (2 ^ bits) length k) (length-map-range_with_len (λ j. (k + j) % 2 ^ bits) 0 length)
-    (residues-below (2 ^ bits) length k (pow_pos bits)) refl
-measured (Histogram length chunk) k fits =
-    let some : 0 < length = (fitting (Histogram length chunk) fits).0.0 in
-    not_refused (Histogram length chunk) (k % length ∷ []) refl (one-below length (k % length) (omega arith)) refl
-measured (Multihot length weight chunk) k fits =
-    let ones = ones_below length (k % suc weight) k in
-    let few : weight_of ones ≤ weight = omega (arith, ones-few length (k % suc weight) k) in
-    not_refused (Multihot length weight chunk) ones (length-map-range_with_len (λ j. hit length (k % suc weight) (j + k)) 0 length)
-    (ones-bits length (k % suc weight) k) (rw (le-leb (weight_of ones) weight few) refl)
+measured (SumVec count bits chunk) k fits =
+    not_refused (SumVec count bits chunk) (residues (2 ^ bits) count k) (length-map-range_with_len (λ j. (k + j) % 2 ^ bits) 0 count)
+    (residues-below (2 ^ bits) count k (pow_pos bits)) refl
+measured (Histogram count chunk) k fits =
+    let some : 0 < count = (fitting (Histogram count chunk) fits).0.0 in
+    not_refused (Histogram count chunk) (k % count ∷ []) refl (one-below count (k % count) (omega arith)) refl
+measured (Multihot count weight chunk) k fits =
+    let ones = ones_below count (k % suc weight) k in
+    let few : weight_of ones ≤ weight = omega (arith, ones-few count (k % suc weight) k) in
+    not_refused (Multihot count weight chunk) ones (length-map-range_with_len (λ j. hit count (k % suc weight) (j + k)) 0 count)
+    (ones-bits count (k % suc weight) k) (rw (le-leb (weight_of ones) weight few) refl)

@@ -1,5 +1,5 @@
 -- What is made is a batch of its circuit.
-use Rattle.std.proofs.Common.{ℕ, ◌≡◌, ◌+◌, ◌*◌, ◌^◌, ◌<◌, ◌≤◌, List, length, map, Bool, true, false, cond, ltb, Option, None, Some, refl, sym, ap, ◌∙◌, arith}
+use Rattle.std.proofs.Common.{ℕ, ◌≡◌, ◌+◌, ◌*◌, ◌^◌, ◌<◌, ◌≤◌, List, length, map, get_or, Bool, true, false, cond, ltb, Option, None, Some, refl, sym, ap, ◌∙◌, arith}
 use Rattle.std.specs.List.{All, range_with_len}
 use Rattle.std.proofs.lemmas.Bool.{le-ltb, ltb-false}
 use Rattle.std.proofs.lemmas.List.Elements.{All-map}
@@ -69,7 +69,7 @@ trials_are_batches bounded text params circuit seed reports loaded few none =
     } in
     let sizes : All (λ (r : List ℕ). length r ≡ bytes_of (trial_shape circuit)) (trial_records params circuit seed reports) =
     All-map (λ (r : List ℕ). length r ≡ bytes_of (trial_shape circuit)) (trial_record params circuit seed) (range_with_len 0 reports)
-    (λ (k d : ℕ) (below : k < length (range_with_len 0 reports)). length-record params circuit (circuit-of text params circuit loaded) (bounded text params circuit loaded) seed _) in
+    (λ (k d : ℕ) (below : k < length (range_with_len 0 reports)). length-record params circuit (circuit-of text params circuit loaded) (bounded text params circuit loaded) seed (get_or (range_with_len 0 reports) k d)) in
     let count : length (trial_records params circuit seed reports) ≡ reports = length-map-range_with_len (trial_record params circuit seed) 0 reports in
     let written =
     batch_written None (record { shares = 2; proofs = 1; text = text; jobs = reports }) params circuit (trial_shape circuit) (trial_records params circuit seed reports)

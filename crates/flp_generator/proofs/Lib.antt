@@ -6,3 +6,5 @@ pub mod InputLemmas
 pub mod RecordLemmas
 -- what is made is a batch
 mod LawLemmas
+-- the words that are made
+mod MakerLemmas

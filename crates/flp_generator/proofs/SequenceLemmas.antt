@@ -45,7 +45,8 @@ next-taken seed start index next is =
 pub stays_out : WordsStayOut
 stays_out seed index size few some small is =
     let e = seed + 1 + index in
-    let least : 1 * 1 ≤ e * size = mul-le-mul (omega arith) some in
+    let from : 1 ≤ e = omega arith in
+    let least : 1 * 1 ≤ e * size = mul-le-mul from some in
     let most : e * size ≤ 2 ^ 50 * 4096 = mul-le-mul few small in
     let inside : e * size < group_size = omega (arith, group_size_is, most) in
     let one : 7 ^ (e * size) % modulus ≡ 1 = ap (λ (n : ℕ). n % modulus) (sym (pow-pow 7 e size)) ∙ (sym (pow-mod (7 ^ e) size modulus) ∙ is) in

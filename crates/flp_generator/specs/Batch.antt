@@ -1,6 +1,6 @@
 -- The batch of trials of a circuit, and when it is too large.
-use Rattle.std.specs.Prelude.{ℕ, ◌+◌, ◌*◌, ◌≡◌, nat_lt, if◌then◌else◌, List, [], ◌++◌, map, Option, None, Some}
-use Prim.Native.Nat.{le_by_compare}
+use Rattle.std.specs.Prelude.{ℕ, ◌+◌, ◌*◌, ◌≡◌, ◌≤◌, nat_lt, if◌then◌else◌, List, [], ◌++◌, map, Option, None, Some}
+use native.Mathlib.Bridge.{IsLe, le_by_compare}
 use Rattle.std.specs.List.{range_with_len, concat}
 use Rattle.flp_syntax.specs.declared.syntax.Params.{Params}
 use Rattle.flp_syntax.specs.Tree.{Program}
@@ -12,6 +12,15 @@ use Rattle.flp_report.specs.Layout.{head_bytes}
 use Rattle.flp_generator.specs.declared.fault.GeneratorFault.{GeneratorFault}
 use Rattle.flp_generator.specs.declared.fault.GeneratorFault.TheVariants.{Memory, TooLarge}
 use Rattle.flp_generator.specs.Place.{trial_record}
+
+-- few shares and proofs
+pub few-shares : 2 ≤ 16
+unfolding IsLe
+few-shares = le_by_compare 2 16 tt
+
+pub few-proofs : 1 ≤ 16
+unfolding IsLe
+few-proofs = le_by_compare 1 16 tt
 
 -- two shares and one proof, behind a head of version 1
 abbrev pub trial_shape : Program → Shape
@@ -25,8 +34,8 @@ trial_shape circuit = record {
   query = (counted_lengths circuit).query;
   proof = (counted_lengths circuit).proof;
   outs = (counted_lengths circuit).outs;
-  few_shares = le_by_compare 2 16 tt;
-  few_proofs = le_by_compare 1 16 tt;
+  few_shares = few-shares;
+  few_proofs = few-proofs;
 }
 
 -- no old claims, and so many reports

@@ -23,7 +23,7 @@ use std::alloc::Global;
 
 /// The shape of the records.
 fn shape_of(plan: &Plan) -> Shape
-    ensures { result ≡ trial_shape plan.now.circuit }
+    ensures { bytes_of result ≡ bytes_of (trial_shape plan.now.circuit) }
 {
     let lengths = plan.lengths();
     Shape {

@@ -1,5 +1,5 @@
 //! The words of the record of a place, and its nonce.
-ghost use Rattle.std.specs.Prelude.{◌≡◌, ◌+◌, ◌*◌, ◌≤◌, ◌<◌, ◌^◌, ◌++◌, length, IfSome, slice_index};
+ghost use Rattle.std.specs.Prelude.{◌≡◌, ◌+◌, ◌*◌, ◌≤◌, ◌<◌, ◌^◌, ◌++◌, length, take, IfSome};
 ghost use Rattle.flp_circuits.specs.Sizes.{input_len_of};
 ghost use Rattle.flp_plan.specs.Counted.{counted_lengths};
 ghost use Rattle.flp_plan.specs.Sizes.{sizes_of};
@@ -8,7 +8,7 @@ ghost use Rattle.flp_meaning.specs.Proof.{honest_proof};
 ghost use Rattle.flp_generator.specs.Change as change;
 ghost use Rattle.flp_generator.specs.Sequence.{part_of};
 ghost use Rattle.flp_generator.specs.Input.{trial_encoding};
-ghost use Rattle.flp_generator.specs.Place.{changed_words, last_proof_word, first_point, trial_nonce};
+ghost use Rattle.flp_generator.specs.Place.{changed_words, first_point, trial_nonce};
 
 use crate::change::{Change, change_at, nonce_place};
 use crate::input::write_encoding;
@@ -81,10 +81,11 @@ fn first_point_of(plan: &Plan) -> usize
 /// Changes the words of the record of a place, of which `shares` are those of its shares.
 pub(crate) fn change_words(plan: &Plan, place: u32, shares: &[Fe], words: &mut [u64])
     requires shares { length shares.now ≡ 2 * part_of (counted_lengths plan.now.circuit) }
-    requires last { slice_index words.old (last_proof_word plan.now.circuit) ≡ slice_index shares.now (last_proof_word plan.now.circuit) }
+    requires first { take (length shares.now) words.old ≡ shares.now }
     requires words { length words.old ≡ length shares.now + (counted_lengths plan.now.circuit).joint + (counted_lengths plan.now.circuit).query }
     ensures { words.new ≡ changed_words (change.change_at place) plan.now.circuit words.old }
 {
+    laws::is_within_limits(plan);
     match change_at(place) {
         Change::Proof => {
             let last = shares.len() / 2 - 1;

@@ -55,7 +55,7 @@ fn read_into<S: Source>(
     match read_text(input, room.as_mut_slice()) {
         Ok(count) => {
             room.truncate(count);
-            load_text(alloc, Bytes::from_vec(room))
+            load_room(alloc, room)
         }
         Err(_) => Err(EngineFault::Read),
     }
@@ -73,15 +73,30 @@ fn read_text<S: Source>(input: &mut S, room: &mut [u8]) -> Result<usize, Failed>
     fill(input, room)
 }
 
-/// Loads the text.
-fn load_text(alloc: Global, text: Bytes) -> Result<CircuitText, EngineFault>
-    ensures text { IfOk result (λ circuit. circuit.text ≡ text) }
-    ensures loaded { IfOk result (λ circuit. IsLoaded text circuit.loaded.params circuit.loaded.plan.circuit) }
-    ensures refused { IfErr result (λ fault. (left left' : Option (List ℕ)) → ReadsText left left' text → FailsToRead fault left left') }
+/// Loads the text in the room, which is kept.
+fn load_room(alloc: Global, room: Vec<u8>) -> Result<CircuitText, EngineFault>
+    ensures text { IfOk result (λ circuit. circuit.text ≡ room.items) }
+    ensures loaded { IfOk result (λ circuit. IsLoaded room.items circuit.loaded.params circuit.loaded.plan.circuit) }
+    ensures refused { IfErr result (λ fault. (left left' : Option (List ℕ)) → ReadsText left left' room.items → FailsToRead fault left left') }
     ensures not_read { result ≢ Err EngineFault.Read }
 {
-    match load_circuit(alloc, text.as_slice()) {
-        Ok(loaded) => Ok(CircuitText { text, loaded }),
+    match load_text(alloc, room.as_slice()) {
+        Ok(loaded) => Ok(CircuitText {
+            text: Bytes::from_vec(room),
+            loaded,
+        }),
+        Err(fault) => Err(fault),
+    }
+}
+
+/// Loads the text.
+fn load_text(alloc: Global, text: &[u8]) -> Result<Loaded, EngineFault>
+    ensures loaded { IfOk result (λ loaded. IsLoaded text.now loaded.params loaded.plan.circuit) }
+    ensures refused { IfErr result (λ fault. (left left' : Option (List ℕ)) → ReadsText left left' text.now → FailsToRead fault left left') }
+    ensures not_read { result ≢ Err EngineFault.Read }
+{
+    match load_circuit(alloc, text) {
+        Ok(loaded) => Ok(loaded),
         Err(LoadFault::Memory) => Err(EngineFault::Memory),
         Err(LoadFault::Circuit(fault)) => Err(EngineFault::Circuit(fault)),
     }

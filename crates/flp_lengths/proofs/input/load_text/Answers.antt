@@ -5,5 +5,5 @@ use Rattle.flp_lengths.proofs.input.load_text.Goals as goal
 
 pub returns-in-Err-Circuit-clause-refused : goal.returns-in-Err-Circuit-clause-refused
 returns-in-Err-Circuit-clause-refused c = λ left left' read.
-    load_fails left left' c.args.text c.in-Err-Circuit.fault read
-    (subst (IsLoadFault c.args.text) c.in-Err-Circuit.field-0-is c.in-Err-Circuit.ensures.fault)
+    load_fails left left' c.args.text.now c.in-Err-Circuit.fault read
+    (subst (IsLoadFault c.args.text.now) c.in-Err-Circuit.field-0-is c.in-Err-Circuit.ensures.fault)
