@@ -61,7 +61,7 @@ pub fn push_line(text: &mut Vec<u8>, nonce: &[u8], verdict: Verdict) -> Result<(
 }
 
 /// Appends numbers, with one space before each.
-pub fn push_spaced(text: &mut Vec<u8>, numbers: &[Fe]) -> Result<(), Memory>
+fn push_spaced(text: &mut Vec<u8>, numbers: &[Fe]) -> Result<(), Memory>
     ensures { OnOk result (text.new.items ≡ text.old.items ++ spaced numbers.now) }
 {
     for number in numbers {
