@@ -1,9 +1,9 @@
 -- the words that are taken
-mod SequenceLemmas
+pub mod SequenceLemmas
 -- the measurements of the places
-mod InputLemmas
+pub mod InputLemmas
 -- how long a record is
-mod RecordLemmas
+pub mod RecordLemmas
 -- what is made is a batch
 mod LawLemmas
 -- the words that are made

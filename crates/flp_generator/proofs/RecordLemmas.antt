@@ -73,10 +73,10 @@ module _ (params : Option Params) (circuit : Program) (is : IsCircuitOf params c
   abbrev taken : List ℕ
   taken = words_taken lengths seed place
 
-  length-taken : length taken ≡ taken_by_place lengths
+  pub length-taken : length taken ≡ taken_by_place lengths
   length-taken = length-sequence seed (place * taken_by_place lengths) (taken_by_place lengths)
 
-  are_seeds : AreSeeds circuit (seeds_taken lengths taken)
+  pub are_seeds : AreSeeds circuit (seeds_taken lengths taken)
   are_seeds = record {
     words = All-take IsWord lengths.prove (behind_joint lengths taken) (All-drop IsWord lengths.joint taken (words-sequence seed (place * taken_by_place lengths) (taken_by_place lengths)));
     size = length-seeds lengths taken length-taken;
@@ -85,7 +85,7 @@ module _ (params : Option Params) (circuit : Program) (is : IsCircuitOf params c
   abbrev x : List ℕ
   x = trial_encoding params lengths.meas (seed + place)
 
-  length-unshared : length (unshared_words circuit x taken) ≡ part_of lengths
+  pub length-unshared : length (unshared_words circuit x taken) ≡ part_of lengths
   length-unshared =
       length-append x (honest_proof circuit x (joint_taken lengths taken) (seeds_taken lengths taken))
       ∙ ap₂ (λ (a b : ℕ). a + b) (length-encoding params circuit (seed + place) is)
@@ -94,13 +94,13 @@ module _ (params : Option Params) (circuit : Program) (is : IsCircuitOf params c
   abbrev shares : List ℕ
   shares = shares_of 2 (unshared_words circuit x taken) (share_taken lengths taken)
 
-  length-shares : length shares ≡ 2 * part_of lengths
+  pub length-shares : length shares ≡ 2 * part_of lengths
   length-shares =
       let own : length (share_taken lengths taken) ≡ 1 * length (unshared_words circuit x taken) = omega (arith, length-share lengths taken length-taken, length-unshared) in
       length-shares_of 2 (unshared_words circuit x taken) (share_taken lengths taken) (omega arith) own
       ∙ ap (λ (n : ℕ). 2 * n) length-unshared
 
-  length-honest : length (honest_words circuit x taken) ≡ words_of (trial_shape circuit)
+  pub length-honest : length (honest_words circuit x taken) ≡ words_of (trial_shape circuit)
   length-honest =
       let own = length-append (joint_taken lengths taken) (query_taken lengths taken) in
       let all = length-append shares (joint_taken lengths taken ++ query_taken lengths taken) in

@@ -13,5 +13,6 @@ mod lines;
 pub use command::lengths;
 pub use flp_batch::EngineFault;
 pub use input::{CircuitText, read_circuit};
+pub use lines::push_number_line;
 /// Want of memory.
 pub use std::alloc::AllocError as Memory;
