@@ -1,5 +1,5 @@
 -- What is made is a batch of its circuit.
-use Rattle.std.proofs.Common.{ℕ, ◌≡◌, ◌+◌, ◌*◌, ◌^◌, ◌<◌, ◌≤◌, List, length, map, get_or, Bool, true, false, cond, ltb, Option, None, Some, refl, sym, ap, ◌∙◌, arith}
+use Rattle.std.proofs.Common.{ℕ, ◌≡◌, ◌<◌, ◌≤◌, List, length, get_or, Bool, true, false, cond, ltb, Option, None, Some, refl, arith}
 use Rattle.std.specs.List.{All, range_with_len}
 use Rattle.std.proofs.lemmas.Bool.{le-ltb, ltb-false}
 use Rattle.std.proofs.lemmas.List.Elements.{All-map}
@@ -65,7 +65,15 @@ trials_are_batches bounded text params circuit seed reports loaded few none =
       reports = few;
     } in
     let fits : IsShapeBehind (trial_header text reports) circuit (trial_shape circuit) = record {
-      version = refl; shares = refl; proofs = refl; buckets = refl; meas = refl; joint = refl; query = refl; proof = refl; outs = refl;
+      version = refl;
+      shares = refl;
+      proofs = refl;
+      buckets = refl;
+      meas = refl;
+      joint = refl;
+      query = refl;
+      proof = refl;
+      outs = refl;
     } in
     let sizes : All (λ (r : List ℕ). length r ≡ bytes_of (trial_shape circuit)) (trial_records params circuit seed reports) =
     All-map (λ (r : List ℕ). length r ≡ bytes_of (trial_shape circuit)) (trial_record params circuit seed) (range_with_len 0 reports)

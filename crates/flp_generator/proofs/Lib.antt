@@ -8,3 +8,5 @@ pub mod RecordLemmas
 mod LawLemmas
 -- the words that are made
 mod MakerLemmas
+-- the batch fits its room
+mod RoomLemmas

@@ -1,15 +1,13 @@
 -- How many words and bytes the record of a place has.
-use Rattle.std.proofs.Common.{ℕ, ◌≡◌, ◌+◌, ◌-◌, ◌*◌, ◌<◌, ◌≤◌, List, [], ◌∷◌, ◌++◌, length, take, drop, set, Option, None, Some, refl, ap, ap₂, sym, ◌∙◌, arith, length-append}
+use Rattle.std.proofs.Common.{ℕ, ◌≡◌, ◌+◌, ◌*◌, List, ◌++◌, length, Option, None, Some, refl, ap, ap₂, sym, ◌∙◌, arith, length-append}
 use Rattle.std.proofs.lemmas.List.{length-set, length-take-le, length-drop}
 use Rattle.std.proofs.lemmas.List.FromFn.{length-map-range_with_len}
 use Rattle.std.proofs.lemmas.List.Elements.{All-take, All-drop}
-use Rattle.flp_field.specs.Word.{IsWord, AreWords}
+use Rattle.flp_field.specs.Word.{IsWord}
 use Rattle.flp_share.specs.Shares.{shares_of}
 use Rattle.flp_share.proofs.Sharings.{length-shares_of}
 use Rattle.flp_syntax.specs.declared.syntax.Params.{Params}
 use Rattle.flp_syntax.specs.Tree.{Program}
-use Rattle.flp_circuits.specs.Sizes.{meas_len_of}
-use Rattle.flp_circuits.specs.Standard.{standard_program}
 use Rattle.flp_circuits.proofs.Encodings.{encodings_have_length}
 use Rattle.flp_meaning.specs.Proof.{honest_proof}
 use Rattle.flp_meaning.specs.ProofLaws.{IsBounded, AreSeeds}
@@ -20,12 +18,12 @@ use Rattle.flp_report.specs.Shape.{words_of, bytes_of}
 use Rattle.flp_report.specs.Layout.{word_bytes}
 use Rattle.flp_report.proofs.ReportLemmas.{length-word_bytes}
 use Rattle.flp_jobs.specs.Setting.{IsCircuitOf}
-use Rattle.flp_jobs.proofs.SettingLemmas.{meas-standard}
+use Rattle.flp_load.proofs.StandardLemmas.{meas-standard}
 use Rattle.flp_generator.specs.declared.change.Change.{Change}
 use Rattle.flp_generator.specs.declared.change.Change.TheVariants.{Nothing, Proof, Point, Word, Nonce}
 use Rattle.flp_generator.specs.Sequence.{part_of, taken_by_place, words_taken, joint_taken, seeds_taken, share_taken, query_taken, behind_joint, behind_seeds}
 use Rattle.flp_generator.specs.Input.{measurement, trial_encoding}
-use Rattle.flp_generator.specs.Change.{change_at, nonce_place}
+use Rattle.flp_generator.specs.Change.{change_at}
 use Rattle.flp_generator.specs.Place.{unshared_words, honest_words, changed_words, last_proof_word, first_point, trial_words, trial_nonce, trial_record}
 use Rattle.flp_generator.specs.Batch.{trial_shape}
 use Rattle.flp_generator.proofs.InputLemmas.{measured}

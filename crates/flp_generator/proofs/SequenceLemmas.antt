@@ -1,12 +1,12 @@
 -- The words that are taken, one after the other.
-use Rattle.std.proofs.Common.{ℕ, suc, ◌+◌, ◌*◌, ◌%◌, ◌^◌, ◌<◌, ◌≤◌, ◌≡◌, List, [], ◌∷◌, ◌++◌, length, map, take, set, refl, sym, ap, ap₂, ◌∙◌, arith}
+use Rattle.std.proofs.Common.{ℕ, suc, ◌+◌, ◌*◌, ◌%◌, ◌^◌, ◌<◌, ◌≤◌, ◌≡◌, List, [], ◌∷◌, ◌++◌, length, take, set, refl, sym, ap, ap₂, ◌∙◌, arith}
 use Rattle.std.specs.List.{range_with_len}
 use Rattle.std.proofs.Math.Nat.{pow-suc, mul-le-mul}
 use Rattle.std.proofs.lemmas.Nat.{pow-mod}
 use Rattle.std.proofs.lemmas.List.{take_more_set}
 use Rattle.std.proofs.lemmas.List.Elements.{All-map}
 use Rattle.std.proofs.lemmas.List.FromFn.{length-map-range_with_len, map-range_with_len_more}
-use Rattle.flp_field.specs.Word.{modulus, IsWord, AreWords, word_power, word_product}
+use Rattle.flp_field.specs.Word.{modulus, IsWord, AreWords, word_product}
 use Rattle.flp_field.proofs.Powers.{pow-pow}
 use Rattle.flp_field.proofs.Order.{group_size, group_size_is, seven_order}
 use Rattle.flp_field.proofs.Congruence.{mod_word, same_mod, same_mul}

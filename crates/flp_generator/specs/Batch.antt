@@ -1,5 +1,5 @@
 -- The batch of trials of a circuit, and when it is too large.
-use Rattle.std.specs.Prelude.{ℕ, ◌+◌, ◌*◌, ◌≡◌, ◌≤◌, nat_lt, if◌then◌else◌, List, [], ◌++◌, map, Option, None, Some}
+use Rattle.std.specs.Prelude.{ℕ, ◌+◌, ◌*◌, ◌≡◌, ◌≤◌, nat_lt, if◌then◌else◌, List, ◌++◌, map, Option, None, Some}
 use native.Mathlib.Bridge.{IsLe, le_by_compare}
 use Rattle.std.specs.List.{range_with_len, concat}
 use Rattle.flp_syntax.specs.declared.syntax.Params.{Params}

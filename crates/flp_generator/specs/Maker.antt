@@ -1,5 +1,5 @@
 -- The room in which the records are made, one after another.
-use Rattle.std.specs.Prelude.{ℕ, ◌+◌, ◌*◌, ◌≡◌, vec_len, IfSome}
+use Rattle.std.specs.Prelude.{ℕ, ◌*◌, ◌≡◌, vec_len, IfSome}
 use Rattle.flp_load.specs.declared.circuit.Loaded.{Loaded}
 use Rattle.flp_plan.specs.Counted.{counted_lengths}
 use Rattle.flp_plan.specs.Sizes.{sizes_of}

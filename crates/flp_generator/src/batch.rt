@@ -1,11 +1,10 @@
 //! The batch, made in memory.
-ghost use Rattle.std.specs.Prelude.{◌≡◌, ◌≤◌, ◌*◌, ◌++◌, None, length, IfOk, IfErr, OnOk};
+ghost use Rattle.std.specs.Prelude.{◌≡◌, ◌≤◌, ◌*◌, length, IfOk, IfErr, OnOk};
 ghost use Rattle.std.specs.List.{concat};
 ghost use Rattle.std.specs.Io.KnownBytes.{Appends};
 ghost use Rattle.std.specs.Result.{result_err};
 ghost use Rattle.flp_io.specs.Writes.{HasRoom};
 ghost use Rattle.flp_load.specs.Loaded.{IsLoaded};
-ghost use Rattle.flp_report.specs.Layout.{head_bytes};
 ghost use Rattle.flp_report.specs.Shape.{bytes_of};
 ghost use Rattle.flp_jobs.specs.Setting.{IsCircuitOf};
 ghost use Rattle.flp_generator.specs.Batch.{trial_shape, trial_header, trial_records, trial_batch, trial_size, too_large, IsGeneratorFault};
@@ -73,7 +72,13 @@ fn size_of(plan: &Plan, text: usize, reports: u32) -> Result<usize, u64>
 }
 
 /// Writes the records of all places to a sink that has room for them.
-fn write_records<K: Sink>(loaded: &Loaded, maker: &mut Maker, seed: u32, reports: u32, output: &mut K)
+fn write_records<K: Sink>(
+    loaded: &Loaded,
+    maker: &mut Maker,
+    seed: u32,
+    reports: u32,
+    output: &mut K,
+)
     requires circuit { IsCircuitOf loaded.now.params loaded.now.plan.circuit }
     requires at { IsAt loaded.now seed 0 maker.old }
     requires writable { K.ready output.old }
@@ -91,19 +96,26 @@ fn write_records<K: Sink>(loaded: &Loaded, maker: &mut Maker, seed: u32, reports
 }
 
 /// Writes the batch to a sink that has room for it.
-fn write_batch<K: Sink>(header: &Header, loaded: &Loaded, maker: &mut Maker, seed: u32, output: &mut K)
-    requires text { length header.now.text ≤ 65536 }
+fn write_batch<K: Sink>(
+    text: Bytes,
+    loaded: &Loaded,
+    maker: &mut Maker,
+    seed: u32,
+    reports: u32,
+    output: &mut K,
+)
+    requires text { length text ≤ 65536 }
     requires circuit { IsCircuitOf loaded.now.params loaded.now.plan.circuit }
     requires at { IsAt loaded.now seed 0 maker.old }
     requires writable { K.ready output.old }
-    requires room { HasRoom (K.spare output.old) (trial_size loaded.now.plan.circuit (length header.now.text) header.now.reports) }
-    ensures { Appends (K.taken output.old) (K.taken output.new) (head_bytes header.now ++ concat (trial_records loaded.now.params loaded.now.plan.circuit seed header.now.reports)) }
+    requires room { HasRoom (K.spare output.old) (trial_size loaded.now.plan.circuit (length text) reports) }
+    ensures { Appends (K.taken output.old) (K.taken output.new) (trial_batch text loaded.now.params loaded.now.plan.circuit seed reports) }
 {
-    match write_head(output, header) {
+    match write_head(output, &header_of(text, reports)) {
         Ok(()) => {}
         Err(_) => unreachable!("there is room"),
     }
-    write_records(loaded, maker, seed, header.reports, output);
+    write_records(loaded, maker, seed, reports, output);
 }
 
 /// Makes the batch of trials of a circuit in memory: so many reports, whose words a seed gives.
@@ -133,6 +145,6 @@ pub fn make_batch(
     let mut sink = MemorySink::new(alloc, usize::MAX, Vec::new(alloc));
     sink.reserve(size)?;
     let mut maker = Maker::new(alloc, loaded, seed)?;
-    write_batch(&header_of(text, reports), loaded, &mut maker, seed, &mut sink);
+    write_batch(text, loaded, &mut maker, seed, reports, &mut sink);
     Ok(SureSource::new(sink.into_bytes()))
 }

@@ -1,4 +1,4 @@
-use Rattle.std.proofs.Common.{◌≡◌, Some, None, sym, ap, ◌∙◌}
+use Rattle.std.proofs.Common.{◌≡◌, Some, None, ap, ◌∙◌}
 use Rattle.flp_circuits.specs.Encoding.{meas_fault}
 use Rattle.flp_generator.proofs.InputLemmas.{measured}
 use Rattle.flp_generator.proofs.input.write_measured.Goals as goal

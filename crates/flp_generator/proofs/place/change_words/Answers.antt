@@ -1,8 +1,7 @@
-use Rattle.std.proofs.Common.{ℕ, ◌≡◌, ◌+◌, ◌-◌, ◌*◌, ◌/◌, ◌<◌, ◌≤◌, List, length, get_or, set, take, slice_index, ap, ap₂, sym, ◌∙◌, arith}
+use Rattle.std.proofs.Common.{ℕ, ◌≡◌, ◌-◌, ◌/◌, ◌<◌, List, length, get_or, set, ap, ap₂, sym, ◌∙◌, arith}
 use Rattle.std.proofs.lemmas.List.{get_or_read, get_or-take}
 use Rattle.flp_field.specs.Word.{word_sum}
 use Rattle.flp_generator.specs.declared.change.Change.{Change}
-use Rattle.flp_generator.specs.declared.change.Change.TheVariants.{Proof}
 use Rattle.flp_generator.specs.Place.{last_proof_word, changed_words}
 use Rattle.flp_generator.proofs.place.change_words.Goals as goal
 

@@ -8,8 +8,7 @@ pub loop-word-preserved : goal.loop-word-preserved
 loop-word-preserved c = λ (seed start : ℕ) (is : c.args.self.now.next ≡ sequence_word seed start).
     let before = c.loop-word.invariant seed start is in
     let inside : c.loop-word.word-index < length c.loop-word.words = omega arith in
-    let seven : c.mul-self.result ≡ word_product c.loop-word.self.next 7 = c.mul-self.ensures ∙ ap (λ (n : ℕ). word_product c.loop-word.self.next n) c.seven-seven.ensures in
-    (
+    let seven : c.mul-self.result ≡ word_product c.loop-word.self.next 7 = c.mul-self.ensures ∙ ap (λ (n : ℕ). word_product c.loop-word.self.next n) c.seven-seven.ensures in (
       one-taken seed start c.loop-word.word-index c.loop-word.self.next c.loop-word.words inside before.0 before.1,
       seven ∙ next-taken seed start c.loop-word.word-index c.loop-word.self.next before.1,
     )
