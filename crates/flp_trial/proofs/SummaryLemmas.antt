@@ -28,13 +28,12 @@ use Rattle.flp_trial.specs.Summary.{Summarizes}
 
 -- what the engine's summary says of the records that were counted
 Summarizes-counted : TotalsAreAggregate → (by : Setting) (least : ℕ) (would : Answers) (records : List (List ℕ)) (counted : Counted) (summary : Summary)
-    → IsCounted by least would records counted → IsSummary counted summary → Summarizes by records summary
-Summarizes-counted law by least would records counted summary is sums =
-    let size : length summary.totals ≡ out_count by.circuit =
-    ap length sums.totals ∙ (length-map-range_with_len (λ (e : ℕ). total_of e counted.seat.view.added) 0 counted.outs ∙ is.outs) in
+    → IsCounted by least would records counted → AreSums counted.seat.view.added (totals_in counted) → IsSummary counted summary → Summarizes by records summary
+Summarizes-counted law by least would records counted summary is sums closed =
+    let size : length (totals_in counted) ≡ out_count by.circuit = length-map-range_with_len (λ (e : ℕ). total_of e counted.seat.view.added) 0 counted.outs ∙ is.outs in
     record {
-      numbers = ap counts_in sums.numbers ∙ is.numbers;
-      totals = law by records counted.seat.view.claimed summary.totals is.once (subst (λ (es : List Entry). AreSums es summary.totals) is.rows sums.sums) size;
+      numbers = ap counts_in closed.numbers ∙ is.numbers;
+      totals = closed.totals ∙ law by records counted.seat.view.claimed (totals_in counted) is.once (subst (λ (es : List Entry). AreSums es (totals_in counted)) is.rows sums) size;
     }
 
 -- bytes that were read to their end are all that there were
@@ -54,12 +53,13 @@ NoBatchHasFault = (bytes : List ℕ) (params : Option Params) (setting : Setting
 -- of a batch with this setting, where it is the whole input
 pub summary-of : SettingIsOne → TotalsAreAggregate → (bytes : List ℕ) (params : Option Params) (by : Setting) (least : ℕ) (would asked : Answers) (counted : Counted) (summary : Summary)
     (left' taken taken' : Option (List ℕ)) → IsBatch None bytes params by → Counts least would asked counted (Some bytes) left' taken taken'
-    → IsSummary counted summary → Summarizes by (records_on bytes by) summary
-summary-of one law bytes params by least would asked counted summary left' taken taken' is all sums =
-    let read : all.bytes ≡ bytes = whole-read bytes all.bytes left' all.read all.ended in
-    let same : all.setting ≡ by = (one bytes all.params params all.setting by (subst (λ (b : List ℕ). HasSetting (batches None) b all.params all.setting) read all.is_batch.has) is.has).1 in
-    let made : Summarizes all.setting (records_on all.bytes all.setting) summary = Summarizes-counted law all.setting least would (records_on all.bytes all.setting) counted summary all.counted_is sums in
-    subst (λ (s : Setting). Summarizes s (records_on bytes s) summary) same (subst (λ (b : List ℕ). Summarizes all.setting (records_on b all.setting) summary) read made)
+    → AreSums counted.seat.view.added (totals_in counted) → IsSummary counted summary → Summarizes by (records_on bytes by) summary
+summary-of one law bytes params by least would asked counted summary left' taken taken' is all sums closed =
+    let whole = all.whole in
+    let read : whole.bytes ≡ bytes = whole-read bytes whole.bytes left' whole.read whole.ended in
+    let same : whole.setting ≡ by = (one bytes whole.params params whole.setting by (subst (λ (b : List ℕ). HasSetting (batches None) b whole.params whole.setting) read whole.is_batch.has) is.has).1 in
+    let made : Summarizes whole.setting (records_on whole.bytes whole.setting) summary = Summarizes-counted law whole.setting least would (records_on whole.bytes whole.setting) counted summary all.counted_is sums closed in
+    subst (λ (s : Setting). Summarizes s (records_on bytes s) summary) same (subst (λ (b : List ℕ). Summarizes whole.setting (records_on b whole.setting) summary) read made)
 
 -- ---- why it fails
 
