@@ -77,7 +77,7 @@ module _ (params : Option Params) (circuit : Program) (seed reports : ℕ) (smal
   length-records = length-map-range_with_len (trial_record params circuit seed) 0 reports
 
   pub record-at : (place : ℕ) → place < reports → report_at records place ≡ trial_record params circuit seed place
-  record-at place below = get_or-map-range_with_len (trial_record params circuit seed) 0 reports place place [] below refl
+  record-at place below = get_or-map-range_with_len (trial_record params circuit seed) 0 reports place place [] below (omega arith)
 
   nonce-at : (place : ℕ) → place < reports → nonce_in (report_at records place) ≡ trial_nonce seed place
   nonce-at place below =

@@ -20,6 +20,7 @@ use Rattle.flp_report.specs.Words.{bad_word_in}
 use Rattle.flp_policy.specs.declared.verdict.Verdict.{Verdict}
 use Rattle.flp_policy.specs.declared.verdict.Verdict.TheVariants.{Accepted, Rejected, InDomain, Malformed, Replayed}
 use Rattle.flp_worker.specs.Parts.{query_words}
+use Rattle.flp_worker.specs.Verdict.{verdict_of}
 use Rattle.flp_verdict.specs.Laws.{report_at, JudgesOnce, AcceptsHonest, IsHonest, IsHonestVerdict}
 use Rattle.flp_jobs.specs.Setting.{IsCircuitOf}
 use Rattle.flp_jobs.proofs.SettingLemmas.{circuit-of}
@@ -107,7 +108,7 @@ module _ (text : List ℕ) (params : Option Params) (circuit : Program) (seed re
       omega (arith, length-records params circuit seed reports tried.small_seed tried.few_reports, below) in
       accepted-of circuit report (trial_verdict params circuit seed reports place) (accepts place inside new good honest) outside
 
-  own : (change_at place ≡ Nonce → ⊥) → trial_verdict params circuit seed reports place ≡ _
+  own : (change_at place ≡ Nonce → ⊥) → trial_verdict params circuit seed reports place ≡ verdict_of circuit (trial_shape circuit) (trial_record params circuit seed place)
   own other = own-verdict params circuit seed reports tried.small_seed tried.few_reports once place below other
 
   pub finds : FindsAt params circuit seed reports place
