@@ -53,8 +53,8 @@ use Rattle.flp_generator.proofs.RecordLemmas.{length-joint, length-query, length
 domain-size : (circuit : Program) (gadget : ℕ) → IsBounded circuit → gadget < length circuit.gadgets → (1 ≤ size_of circuit gadget) × (size_of circuit gadget ≤ 4096)
 domain-size circuit gadget bounded inside =
     let small : log_of circuit gadget ≤ 12 = (domains_hold circuit gadget bounded inside).0 in
-    let least : 2 ^ 0 ≤ 2 ^ log_of circuit gadget = pow-le-pow_right {2} (omega arith) {0} {log_of circuit gadget} (omega arith) in
-    let most : 2 ^ log_of circuit gadget ≤ 2 ^ 12 = pow-le-pow_right {2} (omega arith) {log_of circuit gadget} {12} small in
+    let least : 2 ^ 0 ≤ 2 ^ log_of circuit gadget = pow-le-pow_right {n = 2} (omega arith) {i = 0} {j = log_of circuit gadget} (omega arith) in
+    let most : 2 ^ log_of circuit gadget ≤ 2 ^ 12 = pow-le-pow_right {n = 2} (omega arith) {i = log_of circuit gadget} {j = 12} small in
     (least, most)
 
 -- ---- the first gadget in a domain
