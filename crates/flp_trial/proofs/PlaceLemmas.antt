@@ -33,29 +33,10 @@ use Rattle.flp_generator.specs.Batch.{trial_shape, trial_records, trial_size, to
 use Rattle.flp_generator.specs.Laws.{WordsStayOut}
 use Rattle.flp_generator.proofs.InputLemmas.{measured}
 use Rattle.flp_trial.specs.Places.{IsTried, IsValidAt, trial_verdict, FindsAt, PlacesAreFound, StandardIsValid}
+use Rattle.flp_trial.proofs.SizeLemmas.{none-mapped, small-batch}
 use Rattle.flp_trial.proofs.NonceLemmas.{change-at, nothing-first, length-records, record-at, replayed, not_replayed, own-verdict}
 use Rattle.flp_trial.proofs.FoundLemmas.{found-word, found-point, read-honest, good-honest, points-outside}
 use Rattle.flp_trial.proofs.HonestPlaces.{is_honest, kept-query}
-
--- ---- sizes
-
-none-mapped : {A B : Type 0} (f : A → B) (o : Option A) → option_map f o ≡ None → o ≡ None
-none-mapped f None none = refl
-none-mapped f (Some a) none = cc
-
-second-false : (a b : Bool) (m n : ℕ) → cond a (Some m) (cond b (Some n) None) ≡ None → b ≡ false
-second-false true b m n none = cc
-second-false false true m n none = cc
-second-false false false m n none = refl
-
--- the records of a batch that is not too large
-small-batch : (circuit : Program) (text reports : ℕ) → too_large circuit text reports ≡ None → reports * bytes_of (trial_shape circuit) ≤ 1073741824
-small-batch circuit text reports none =
-    let size : ℕ = trial_size circuit text reports in
-    let whole : size ≤ 1073741824 =
-    ltb-false 1073741824 size
-    (second-false (ltb 16777216 (bytes_of (trial_shape circuit))) (ltb 1073741824 size) (bytes_of (trial_shape circuit)) size none) in
-    omega (arith, whole)
 
 -- ---- honest places
 

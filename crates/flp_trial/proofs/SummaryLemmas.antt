@@ -1,5 +1,5 @@
 -- A batch that lies in memory, verified and summed up: what is known of it, and why that can fail.
-use Rattle.std.proofs.Common.{◌≡◌, ℕ, ◌≤◌, ◌++◌, List, [], length, Option, Some, None, Result, Ok, Err, refl, sym, ap, subst, ◌∙◌, ◌⊎◌, ⊎_elim, arith, append-nil}
+use Rattle.std.proofs.Common.{◌≡◌, ◌≢◌, ℕ, ◌≤◌, ◌++◌, List, [], length, Option, Some, None, Result, Ok, Err, refl, sym, ap, subst, ◌∙◌, arith, append-nil}
 use Rattle.std.specs.Prelude.{IfOk, IfErr, IfSome}
 use Rattle.std.specs.Io.KnownBytes.{Consumes, IsAtEnd}
 use Rattle.std.proofs.lemmas.List.FromFn.{length-map-range_with_len}
@@ -13,7 +13,7 @@ use Rattle.flp_batch.specs.declared.fault.EngineFault.TheVariants.{Memory, Read,
 use Rattle.flp_batch.specs.Ends.{Ends}
 use Rattle.flp_batch.specs.Setting.{Setting}
 use Rattle.flp_batch.specs.Format.{batches}
-use Rattle.flp_batch.specs.File.{IsBatch, IsFault, TakesFew, HasSetting}
+use Rattle.flp_batch.specs.File.{IsBatch, IsFault, HasSetting}
 use Rattle.flp_verdict.specs.Release.{Answers}
 use Rattle.flp_verify.specs.declared.counted.Counted.{Counted}
 use Rattle.flp_verify.specs.declared.counted.Summary.{Summary}
@@ -61,6 +61,13 @@ summary-of one law bytes params by least would asked counted summary left' taken
     let made : Summarizes whole.setting (records_on whole.bytes whole.setting) summary = Summarizes-counted law whole.setting least would (records_on whole.bytes whole.setting) counted summary all.counted_is sums closed in
     subst (λ (s : Setting). Summarizes s (records_on bytes s) summary) same (subst (λ (b : List ℕ). Summarizes whole.setting (records_on b whole.setting) summary) read made)
 
+-- the summary that closing the tally answers
+pub summary-closed : (by : Setting) (records : List (List ℕ)) (counted : Counted) (result : Result Summary EngineFault)
+    → (AreSums counted.seat.view.added (totals_in counted) → (summary : Summary) → IsSummary counted summary → Summarizes by records summary)
+    → IfOk result (λ summary. IsSummary counted summary) → (result ≢ Err Memory → AreSums counted.seat.view.added (totals_in counted)) → IfOk result (Summarizes by records)
+summary-closed by records counted (Ok summary) says closed sums = says (sums (λ is. let no : ⊥ = cc in no)) summary closed
+summary-closed by records counted (Err fault) says closed sums = tt
+
 -- ---- why it fails
 
 -- a count that stays at 0 did not rise
@@ -68,18 +75,12 @@ no-rise : Rose 0 0 → ⊥
 no-rise rose = omega (arith, rose)
 
 -- where neither stream fails, the only fault of a batch is want of memory
-pub fault-of : {T : Type 0} → NoBatchHasFault → (bytes : List ℕ) (params : Option Params) (by : Setting) (left' : Option (List ℕ)) (result : Result T EngineFault)
-    → IsBatch None bytes params by → Ends (IsFault (batches None)) (TakesFew (batches None)) (Some bytes) left' 0 0 0 0 result
+pub fault-of : {T : Type 0} (takes : Option (List ℕ) → Option (List ℕ) → Type 0) → NoBatchHasFault → (bytes : List ℕ) (params : Option Params) (by : Setting) (left' : Option (List ℕ)) (result : Result T EngineFault)
+    → IsBatch None bytes params by → Ends (IsFault (batches None)) takes (Some bytes) left' 0 0 0 0 result
     → IfErr result (λ fault. fault ≡ Memory)
-fault-of never bytes params by left' (Ok value) is ends = tt
-fault-of never bytes params by left' (Err Memory) is ends = refl
-fault-of never bytes params by left' (Err Read) is ends = absurd (no-rise (ends.read refl))
-fault-of never bytes params by left' (Err Write) is ends = absurd (no-rise (ends.write refl))
-fault-of never bytes params by left' (Err (Batch fault)) is ends = absurd (never bytes params by (Batch fault) is ends.fault)
-fault-of never bytes params by left' (Err (Circuit fault)) is ends = absurd (never bytes params by (Circuit fault) is ends.fault)
-
--- and so it is where the batch is summed up
-pub closing-fault : {T : Type 0} → (result : Result T EngineFault) → IfErr result (λ fault. (fault ≡ Memory) ⊎ (fault ≡ Write)) → (result ≡ Err Write → Rose 0 0)
-    → IfErr result (λ fault. fault ≡ Memory)
-closing-fault (Ok value) faults rises = tt
-closing-fault (Err fault) faults rises = ⊎_elim (λ (is : fault ≡ Memory). is) (λ (is : fault ≡ Write). absurd (no-rise (rises (ap Err is)))) faults
+fault-of takes never bytes params by left' (Ok value) is ends = tt
+fault-of takes never bytes params by left' (Err Memory) is ends = refl
+fault-of takes never bytes params by left' (Err Read) is ends = absurd (no-rise (ends.read refl))
+fault-of takes never bytes params by left' (Err Write) is ends = absurd (no-rise (ends.write refl))
+fault-of takes never bytes params by left' (Err (Batch fault)) is ends = absurd (never bytes params by (Batch fault) is ends.fault)
+fault-of takes never bytes params by left' (Err (Circuit fault)) is ends = absurd (never bytes params by (Circuit fault) is ends.fault)
