@@ -20,7 +20,7 @@ use Rattle.flp_batch.specs.Format.{newest_read}
 use Rattle.flp_batch.specs.File.{IsBatch}
 
 -- a batch without a fault has none in its head
-pub none-head : (party : Option ℕ) (shape : Shape) (batch : List ℕ) → fault_of newest_read party shape batch ≡ None → batch_head_fault newest_read party batch ≡ None
+none-head : (party : Option ℕ) (shape : Shape) (batch : List ℕ) → fault_of newest_read party shape batch ≡ None → batch_head_fault newest_read party batch ≡ None
 none-head party shape batch none =
     let front : front_fault newest_read party shape batch ≡ None =
     none-at (front_fault newest_read party shape batch ∷ records_fault shape (claims_end batch) (number_at 28 batch) (drop (claims_end batch) batch) ∷ []) 0 none in
