@@ -41,8 +41,9 @@ abbrev pub circuit_in : (format : Format) → SettingOf format → Program
 circuit_in (batches party) by = by.circuit
 circuit_in (job_files writes) by = by.circuit
 
--- the setting of a batch of these bytes, whose text is this circuit's
-pub record FitsBatch (bytes : List ℕ) (by : Setting) : Type 0 where
+-- the setting of a batch of these bytes, whose text is loaded with these parameters as this circuit
+pub record FitsBatch (bytes : List ℕ) (params : Option Params) (by : Setting) : Type 0 where
+  pub params_are : by.params ≡ params
   pub shape : IsShapeBehind (batch.header_of bytes) by.circuit by.shape
   pub claims : batch.claims_of bytes ≡ by.claims
 
@@ -53,7 +54,7 @@ pub record FitsJobs (writes : Bool) (bytes : List ℕ) (params : Option Params) 
 
 -- the setting of a file of these bytes, whose text is loaded with these parameters
 abbrev pub FitsSetting : (format : Format) → (bytes : List ℕ) → Option Params → SettingOf format → Type 0
-FitsSetting (batches party) bytes params by = FitsBatch bytes by
+FitsSetting (batches party) bytes params by = FitsBatch bytes params by
 FitsSetting (job_files writes) bytes params by = FitsJobs writes bytes params by
 
 -- the first fault of a file of this setting, the circuit's own fault aside. A job file whose batch is not written may make one of any size

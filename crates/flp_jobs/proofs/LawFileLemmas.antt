@@ -259,7 +259,7 @@ module _ (bounded : LoadedIsBounded) (bytes : List ℕ) (by : JobSetting) (prova
           has = record {
             head = none-head party (made_shape by) batch read.0;
             text = subst P (sym read.1) has.text;
-            fits = record { shape = subst Q (sym read.1) has.fits.shape.of_record; claims = read.2 };
+            fits = record { params_are = refl; shape = subst Q (sym read.1) has.fits.shape.of_record; claims = read.2 };
           };
           no_fault = read.0;
         };

@@ -9,6 +9,7 @@ use Rattle.flp_circuits.proofs.Fitting.{fitting}
 use Rattle.flp_plan.specs.Counted.{counted_lengths}
 use Rattle.flp_plan.proofs.PassedLemmas.{passed, passed_outs}
 use Rattle.flp_load.specs.Loaded.{IsRead, IsLoaded}
+use Rattle.flp_load.proofs.StandardLemmas as load
 use Rattle.flp_report.specs.declared.header.JobHeader.{JobHeader}
 use Rattle.flp_batch.specs.JobSetting.{JobSetting, IsJobShapeBehind}
 use Rattle.flp_jobs.specs.Setting.{IsCircuitOf, IsSetting}
@@ -23,11 +24,7 @@ input-few (Multihot length weight chunk) fits = (fitting (Multihot length weight
 
 -- the words of an encoding
 pub meas-standard : (params : Params) → (standard_program params).meas ≡ meas_len_of params
-meas-standard Count = refl
-meas-standard (Sum max) = refl
-meas-standard (SumVec length bits chunk) = refl
-meas-standard (Histogram length chunk) = refl
-meas-standard (Multihot length weight chunk) = refl
+meas-standard params = load.meas-standard params
 
 -- a loaded circuit has few outs
 pub outs-few : (text : List ℕ) (params : Option Params) (circuit : Program) → IsLoaded text params circuit → (counted_lengths circuit).outs ≤ 65536

@@ -34,7 +34,7 @@ NeverBoth = (rules : Rules) (bytes : List ℕ) (setting : JobSetting) (fault : P
 
 -- what the records of the batch are judged by
 abbrev pub batch_setting : JobSetting → Setting
-batch_setting by = record { circuit = by.circuit; shape = made_shape by; claims = [] }
+batch_setting by = record { params = by.params; circuit = by.circuit; shape = made_shape by; claims = [] }
 
 -- the batch that is made of a job file is one, for each party that has a share, with the records that were made
 pub record ReadsBack (party : Option ℕ) (by : JobSetting) (bytes : List ℕ) : Type 0 where
