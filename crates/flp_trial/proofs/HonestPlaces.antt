@@ -39,12 +39,10 @@ words-trial None circuit k is =
     All-map IsWord (λ (j : ℕ). (k + j) % 2) (range_with_len 0 (counted_lengths circuit).meas) (λ (i d : ℕ) (below : i < length (range_with_len 0 (counted_lengths circuit).meas)). omega arith)
 
 module _ (params : Option Params) (circuit : Program) (is : IsCircuitOf params circuit) (bounded : IsBounded circuit) (seed place : ℕ) where
-  abbrev shape : Shape
-  shape = trial_shape circuit
-
   abbrev lengths : Lengths
   lengths = counted_lengths circuit
 
+  -- what the place takes, and its parts
   abbrev taken : List ℕ
   taken = words_taken lengths seed place
 
@@ -71,6 +69,9 @@ module _ (params : Option Params) (circuit : Program) (is : IsCircuitOf params c
 
   abbrev made : List ℕ
   made = honest_words circuit x taken
+
+  abbrev shape : Shape
+  shape = trial_shape circuit
 
   long-unshared : length unshared ≡ part_words shape
   long-unshared = omega (arith, length-unshared params circuit is bounded seed place)
