@@ -1,19 +1,14 @@
 -- What is found at each place of a circuit's trial.
-use Rattle.std.proofs.Common.{ℕ, ◌≡◌, ◌≢◌, ◌+◌, ◌*◌, ◌%◌, ◌^◌, ◌<◌, ◌≤◌, Bool, true, false, cond, ltb, List, [], length, Option, Some, None, refl, sym, ap, subst, ◌∙◌, arith}
-use Rattle.std.specs.Option.{option_map}
-use Rattle.std.proofs.lemmas.Bool.{ltb-false}
+use Rattle.std.proofs.Common.{ℕ, ◌≡◌, ◌≢◌, ◌+◌, ◌*◌, ◌%◌, ◌<◌, ◌≤◌, List, [], length, Option, Some, None, refl, sym, ap, subst, ◌∙◌, arith}
 use Rattle.flp_syntax.specs.declared.syntax.Params.{Params}
 use Rattle.flp_syntax.specs.Tree.{Program}
 use Rattle.flp_meaning.specs.Circuit.{IsValid}
 use Rattle.flp_meaning.specs.ProofLaws.{IsBounded}
 use Rattle.flp_meaning.specs.Verifier.{gadget_in_domain}
 use Rattle.flp_circuits.specs.Encoding.{encoding_of}
-use Rattle.flp_circuits.specs.Standard.{standard_program}
 use Rattle.flp_circuits.specs.Laws.{EncodingsAreValid}
 use Rattle.flp_plan.specs.Counted.{counted_lengths}
-use Rattle.flp_load.specs.Loaded.{IsLoaded}
 use Rattle.flp_load.specs.Laws.{LoadedIsBounded}
-use Rattle.flp_report.specs.declared.fault.BatchFault.{BatchFault}
 use Rattle.flp_report.specs.Shape.{bytes_of}
 use Rattle.flp_report.specs.Record.{words_in}
 use Rattle.flp_report.specs.Words.{bad_word_in}
@@ -24,15 +19,15 @@ use Rattle.flp_worker.specs.Verdict.{verdict_of}
 use Rattle.flp_verdict.specs.Laws.{report_at, JudgesOnce, AcceptsHonest, IsHonest, IsHonestVerdict}
 use Rattle.flp_jobs.specs.Setting.{IsCircuitOf}
 use Rattle.flp_jobs.proofs.SettingLemmas.{circuit-of}
-use Rattle.flp_generator.specs.declared.change.Change.TheVariants.{Nothing, Proof, Point, Word, Nonce}
+use Rattle.flp_generator.specs.declared.change.Change.TheVariants.{Nothing, Point, Word, Nonce}
 use Rattle.flp_generator.specs.Sequence.{words_taken, joint_taken, query_taken}
 use Rattle.flp_generator.specs.Input.{measurement, trial_encoding}
 use Rattle.flp_generator.specs.Change.{change_at}
 use Rattle.flp_generator.specs.Place.{honest_words, trial_record}
-use Rattle.flp_generator.specs.Batch.{trial_shape, trial_records, trial_size, too_large}
+use Rattle.flp_generator.specs.Batch.{trial_shape, trial_records, too_large}
 use Rattle.flp_generator.specs.Laws.{WordsStayOut}
 use Rattle.flp_generator.proofs.InputLemmas.{measured}
-use Rattle.flp_trial.specs.Places.{IsTried, IsValidAt, trial_verdict, FindsAt, PlacesAreFound, StandardIsValid}
+use Rattle.flp_trial.specs.Places.{IsTried, IsValidAt, trial_verdict, FindsAt, StandardIsValid}
 use Rattle.flp_trial.proofs.SizeLemmas.{none-mapped, small-batch}
 use Rattle.flp_trial.proofs.NonceLemmas.{change-at, nothing-first, length-records, record-at, replayed, not_replayed, own-verdict}
 use Rattle.flp_trial.proofs.FoundLemmas.{found-word, found-point, read-honest, good-honest, points-outside}

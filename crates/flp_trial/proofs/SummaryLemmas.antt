@@ -1,6 +1,6 @@
 -- A batch that lies in memory, verified and summed up: what is known of it, and why that can fail.
-use Rattle.std.proofs.Common.{◌≡◌, ◌≢◌, ℕ, ◌≤◌, ◌++◌, List, [], length, Option, Some, None, Result, Ok, Err, refl, sym, ap, subst, ◌∙◌, arith, append-nil}
-use Rattle.std.specs.Prelude.{IfOk, IfErr, IfSome}
+use Rattle.std.proofs.Common.{◌≡◌, ◌≢◌, ℕ, ◌++◌, List, length, Option, Some, None, Result, Ok, Err, refl, sym, ap, subst, ◌∙◌, arith, append-nil}
+use Rattle.std.specs.Prelude.{IfOk, IfErr}
 use Rattle.std.specs.Io.KnownBytes.{Consumes, IsAtEnd}
 use Rattle.std.proofs.lemmas.List.FromFn.{length-map-range_with_len}
 use Rattle.flp_io.specs.Faults.{Rose}
@@ -21,7 +21,6 @@ use Rattle.flp_verify.specs.Numbers.{counts_in}
 use Rattle.flp_verify.specs.Counted.{IsSummary, totals_in}
 use Rattle.flp_verify.specs.Laws.{TotalsAreAggregate, IsCounted}
 use Rattle.flp_verify.specs.Reply.{Counts, records_on}
-use Rattle.flp_trial.specs.Text.{counts_by, aggregate_by}
 use Rattle.flp_trial.specs.Summary.{Summarizes}
 
 -- ---- what is known of it

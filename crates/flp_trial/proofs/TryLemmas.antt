@@ -6,7 +6,6 @@ use Rattle.flp_load.specs.Loaded.{IsLoaded}
 use Rattle.flp_batch.specs.declared.fault.EngineFault.{EngineFault}
 use Rattle.flp_batch.specs.declared.fault.EngineFault.TheVariants.{Memory}
 use Rattle.flp_batch.specs.File.{IsBatch}
-use Rattle.flp_batch.specs.Setting.{Setting}
 use Rattle.flp_verify.specs.declared.counted.Summary.{Summary}
 use Rattle.flp_verify.specs.Numbers.{counts_in}
 use Rattle.flp_verify.specs.Reply.{records_on}
