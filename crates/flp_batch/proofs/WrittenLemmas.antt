@@ -20,7 +20,7 @@ use Rattle.flp_batch.specs.Format.{newest_read}
 use Rattle.flp_batch.specs.File.{IsBatch}
 
 -- a batch without a fault has none in its head
-pub none-head : (party : Option ℕ) (shape : Shape) (batch : List ℕ) → fault_of newest_read party shape batch ≡ None → batch_head_fault newest_read party batch ≡ None
+none-head : (party : Option ℕ) (shape : Shape) (batch : List ℕ) → fault_of newest_read party shape batch ≡ None → batch_head_fault newest_read party batch ≡ None
 none-head party shape batch none =
     let front : front_fault newest_read party shape batch ≡ None =
     none-at (front_fault newest_read party shape batch ∷ records_fault shape (claims_end batch) (number_at 28 batch) (drop (claims_end batch) batch) ∷ []) 0 none in
@@ -33,12 +33,12 @@ none-head party shape batch none =
     ) 0 front
 
 -- what its records are judged by
-abbrev written_setting : Program → Shape → Setting
-written_setting circuit shape = record { circuit = circuit; shape = shape; claims = [] }
+abbrev written_setting : Option Params → Program → Shape → Setting
+written_setting params circuit shape = record { params = params; circuit = circuit; shape = shape; claims = [] }
 
 -- what is written is a batch with these records
 pub record IsWritten (party : Option ℕ) (batch : List ℕ) (params : Option Params) (circuit : Program) (shape : Shape) (records : List (List ℕ)) : Type 0 where
-  pub is_batch : IsBatch party batch params (written_setting circuit shape)
+  pub is_batch : IsBatch party batch params (written_setting params circuit shape)
   pub records_are : whole_records newest_read party shape batch ≡ records
 
 -- what is read of it
@@ -66,7 +66,7 @@ batch_written party head params circuit shape records writable text fits small s
         has = record {
           head = none-head party shape batch read.0;
           text = subst P (sym read.1) text;
-          fits = record { shape = subst Q (sym read.1) fits; claims = read.2 };
+          fits = record { params_are = refl; shape = subst Q (sym read.1) fits; claims = read.2 };
         };
         no_fault = read.0;
       };

@@ -18,7 +18,7 @@ use Rattle.flp_report.specs.Shape.{words_of, bytes_of}
 use Rattle.flp_report.specs.Layout.{word_bytes}
 use Rattle.flp_report.proofs.ReportLemmas.{length-word_bytes}
 use Rattle.flp_jobs.specs.Setting.{IsCircuitOf}
-use Rattle.flp_jobs.proofs.SettingLemmas.{meas-standard}
+use Rattle.flp_load.proofs.StandardLemmas.{meas-standard}
 use Rattle.flp_generator.specs.declared.change.Change.{Change}
 use Rattle.flp_generator.specs.declared.change.Change.TheVariants.{Nothing, Proof, Point, Word, Nonce}
 use Rattle.flp_generator.specs.Sequence.{part_of, taken_by_place, words_taken, joint_taken, seeds_taken, share_taken, query_taken, behind_joint, behind_seeds}

@@ -12,11 +12,11 @@ use Rattle.flp_generator.specs.Sequence.{sequence_word}
 use Rattle.flp_generator.specs.Batch.{trial_shape, trial_records, trial_batch, too_large}
 
 -- what its records are judged by
-abbrev pub trial_setting : Program → Setting
-trial_setting circuit = record { circuit = circuit; shape = trial_shape circuit; claims = [] }
+abbrev pub trial_setting : Option Params → Program → Setting
+trial_setting params circuit = record { params = params; circuit = circuit; shape = trial_shape circuit; claims = [] }
 
 pub record IsTrialBatch (text : List ℕ) (params : Option Params) (circuit : Program) (seed reports : ℕ) : Type 0 where
-  pub is_batch : IsBatch None (trial_batch text params circuit seed reports) params (trial_setting circuit)
+  pub is_batch : IsBatch None (trial_batch text params circuit seed reports) params (trial_setting params circuit)
   pub records : whole_records newest_read None (trial_shape circuit) (trial_batch text params circuit seed reports) ≡ trial_records params circuit seed reports
 
 -- where it is not too large

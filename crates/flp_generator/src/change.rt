@@ -4,7 +4,7 @@ ghost use Rattle.flp_generator.specs.Change as change;
 
 /// What of the record of a place is not as an honest client makes it.
 #[derive(Clone, Copy, Debug, PartialEq, Eq)]
-pub(crate) enum Change {
+pub enum Change {
     /// Nothing: the record is honest.
     Nothing,
     /// The last proof word of share 0 is one more.

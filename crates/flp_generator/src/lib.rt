@@ -17,6 +17,7 @@ mod place;
 mod sequence;
 
 pub use batch::make_batch;
+pub use change::Change;
 pub use fault::GeneratorFault;
 /// Want of memory.
 pub use std::alloc::AllocError as Memory;

@@ -1,15 +1,13 @@
 -- What is found at a place of a trial, by the words of its record: in a domain, malformed, or an honest report.
-use Rattle.std.proofs.Common.{ℕ, zero, suc, ◌≡◌, ◌≢◌, ◌+◌, ◌-◌, ◌*◌, ◌%◌, ◌^◌, ◌<◌, ◌≤◌, ◌==◌, Bool, true, false, cond, ltb, List, [], ◌∷◌, ◌++◌, length, map, take, drop, set, get_or, slice_index, Option, Some, None, refl, sym, ap, ap₂, subst, ◌∙◌, arith, length-append}
-use Rattle.std.specs.List.{All, range_with_len, sum_by}
-use Rattle.std.proofs.Math.Nat.{mul-le-mul, mul-le-mul_left, pow-le-pow_right}
-use Rattle.std.proofs.Math.Seq.{drop-append-add}
-use Rattle.std.proofs.lemmas.Bool.{ne_eqb, ltb-false}
-use Rattle.std.proofs.lemmas.List.{take_at, drop_at, take_all, length-set, get_or-set_same, get_or-take, get_or-drop}
+use Rattle.std.proofs.Common.{ℕ, zero, suc, ◌≡◌, ◌+◌, ◌*◌, ◌%◌, ◌^◌, ◌<◌, ◌≤◌, ◌==◌, Bool, true, false, List, [], ◌∷◌, ◌++◌, length, drop, set, get_or, slice_index, Option, Some, None, refl, sym, ap, ap₂, ◌∙◌, arith}
+use Rattle.std.specs.List.{All}
+use Rattle.std.proofs.Math.Nat.{mul-le-mul_left, pow-le-pow_right}
+use Rattle.std.proofs.lemmas.Bool.{ne_eqb}
+use Rattle.std.proofs.lemmas.List.{drop_at, length-set, get_or-set_same, get_or-take, get_or-drop}
 use Rattle.std.proofs.lemmas.List.Elements.{All-append, All-take, All-drop, All-set, All-weaker}
 use Rattle.std.proofs.lemmas.List.FromFn.{get_or-map-range_with_len}
 use Rattle.std.proofs.lemmas.List.Sums.{sum_by-le-sum_by}
-use Rattle.flp_field.specs.Word.{modulus, IsWord, AreWords, word_power, word_sum}
-use Rattle.flp_field.specs.Sums.{sum_of_parts}
+use Rattle.flp_field.specs.Word.{modulus, IsWord, AreWords, word_power}
 use Rattle.flp_field.proofs.Powers.{one-pow}
 use Rattle.flp_field.proofs.WordLists.{none-from_words}
 use Rattle.flp_share.specs.Shares.{shares_of}
@@ -18,34 +16,32 @@ use Rattle.flp_syntax.specs.declared.syntax.Params.{Params}
 use Rattle.flp_syntax.specs.Tree.{Program}
 use Rattle.flp_meaning.specs.Gadgets.{first_where, gadgets_of, arity_of, log_of, size_of}
 use Rattle.flp_meaning.specs.Lengths.{check_words, proof_part}
-use Rattle.flp_meaning.specs.Proof.{words_at, honest_proof}
 use Rattle.flp_meaning.specs.ProofLaws.{IsBounded}
 use Rattle.flp_meaning.proofs.WireLemmas.{domains_hold}
 use Rattle.flp_meaning.specs.Verifier.{point_of, gadget_in_domain}
 use Rattle.flp_plan.specs.declared.lengths.Lengths.{Lengths}
 use Rattle.flp_plan.specs.Counted.{counted_lengths}
 use Rattle.flp_report.specs.declared.shape.Shape.{Shape}
-use Rattle.flp_report.specs.Shape.{words_of, bytes_of, part_words}
+use Rattle.flp_report.specs.Shape.{words_of, bytes_of}
 use Rattle.flp_report.specs.Record.{words_in, own_word}
 use Rattle.flp_report.specs.Words.{words, bad_word_in}
 use Rattle.flp_report.specs.Layout.{word_bytes}
 use Rattle.flp_report.proofs.ReportLemmas.{words-word_bytes}
-use Rattle.flp_policy.specs.declared.verdict.Verdict.{Verdict}
 use Rattle.flp_policy.specs.declared.verdict.Verdict.TheVariants.{InDomain, Malformed}
-use Rattle.flp_worker.specs.Parts.{joint_words, query_words}
+use Rattle.flp_worker.specs.Parts.{query_words}
 use Rattle.flp_worker.proofs.PrefixLemmas.{part-fits}
 use Rattle.flp_worker.specs.Verdict.{verdict_of, verdict_by, first_named, first_inside, gadget_inside, all_hold}
 use Rattle.flp_jobs.specs.Setting.{IsCircuitOf}
 use Rattle.flp_generator.specs.declared.change.Change.{Change}
-use Rattle.flp_generator.specs.declared.change.Change.TheVariants.{Nothing, Proof, Point, Word, Nonce}
-use Rattle.flp_generator.specs.Sequence.{sequence_word, part_of, taken_by_place, words_taken, joint_taken, seeds_taken, share_taken, query_taken, behind_joint, behind_seeds}
+use Rattle.flp_generator.specs.declared.change.Change.TheVariants.{Nothing, Point, Word}
+use Rattle.flp_generator.specs.Sequence.{sequence_word, part_of, taken_by_place, words_taken, joint_taken, share_taken, query_taken, behind_joint, behind_seeds}
 use Rattle.flp_generator.specs.Input.{trial_encoding}
 use Rattle.flp_generator.specs.Change.{change_at}
 use Rattle.flp_generator.specs.Place.{honest_words, changed_words, first_point, unshared_words, trial_words, trial_nonce, trial_record}
 use Rattle.flp_generator.specs.Batch.{trial_shape}
 use Rattle.flp_generator.specs.Laws.{WordsStayOut}
 use Rattle.flp_generator.proofs.SequenceLemmas.{words-sequence, length-sequence}
-use Rattle.flp_generator.proofs.RecordLemmas.{length-joint, length-query, length-honest, length-shares}
+use Rattle.flp_generator.proofs.RecordLemmas.{length-honest}
 
 -- ---- domains
 
@@ -53,8 +49,8 @@ use Rattle.flp_generator.proofs.RecordLemmas.{length-joint, length-query, length
 domain-size : (circuit : Program) (gadget : ℕ) → IsBounded circuit → gadget < length circuit.gadgets → (1 ≤ size_of circuit gadget) × (size_of circuit gadget ≤ 4096)
 domain-size circuit gadget bounded inside =
     let small : log_of circuit gadget ≤ 12 = (domains_hold circuit gadget bounded inside).0 in
-    let least : 2 ^ 0 ≤ 2 ^ log_of circuit gadget = pow-le-pow_right (omega arith) (omega arith) in
-    let most : 2 ^ log_of circuit gadget ≤ 2 ^ 12 = pow-le-pow_right (omega arith) small in
+    let least : 2 ^ 0 ≤ 2 ^ log_of circuit gadget = pow-le-pow_right {n = 2} (omega arith) {i = 0} {j = log_of circuit gadget} (omega arith) in
+    let most : 2 ^ log_of circuit gadget ≤ 2 ^ 12 = pow-le-pow_right {n = 2} (omega arith) {i = log_of circuit gadget} {j = 12} small in
     (least, most)
 
 -- ---- the first gadget in a domain

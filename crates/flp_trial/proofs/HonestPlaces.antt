@@ -1,6 +1,6 @@
 -- A place of a trial where nothing is changed: its record is an honest report of what the place encodes.
-use Rattle.std.proofs.Common.{ℕ, zero, ◌≡◌, ◌+◌, ◌*◌, ◌%◌, ◌<◌, ◌≤◌, List, ◌++◌, length, map, take, drop, Option, Some, None, Bool, true, refl, sym, ap, ap₂, subst, ◌∙◌, arith, length-append}
-use Rattle.std.specs.List.{All, range_with_len}
+use Rattle.std.proofs.Common.{ℕ, ◌≡◌, ◌+◌, ◌*◌, ◌%◌, ◌<◌, List, ◌++◌, length, take, Option, Some, None, refl, sym, ap, ap₂, subst, ◌∙◌, arith}
+use Rattle.std.specs.List.{range_with_len}
 use Rattle.std.proofs.Math.Seq.{drop-append-add}
 use Rattle.std.proofs.lemmas.List.{take_at, drop_at, take_all}
 use Rattle.std.proofs.lemmas.List.Elements.{All-append, All-map}
@@ -12,7 +12,7 @@ use Rattle.flp_syntax.specs.declared.syntax.Params.{Params}
 use Rattle.flp_syntax.specs.Tree.{Program}
 use Rattle.flp_meaning.specs.Circuit.{IsValid}
 use Rattle.flp_meaning.specs.Proof.{words_at, honest_proof}
-use Rattle.flp_meaning.specs.ProofLaws.{IsBounded, AreSeeds}
+use Rattle.flp_meaning.specs.ProofLaws.{IsBounded}
 use Rattle.flp_meaning.proofs.Honest.{honest_proof_has_length}
 use Rattle.flp_plan.specs.declared.lengths.Lengths.{Lengths}
 use Rattle.flp_plan.specs.Counted.{counted_lengths}
@@ -24,8 +24,8 @@ use Rattle.flp_verdict.specs.Laws.{IsHonestProof, IsHonest}
 use Rattle.flp_jobs.specs.Setting.{IsCircuitOf}
 use Rattle.flp_jobs.proofs.LawPartLemmas.{sum-cut, sum_of_parts-front}
 use Rattle.flp_jobs.proofs.LawWordLemmas.{words-encoding, words-honest}
-use Rattle.flp_generator.specs.Sequence.{part_of, taken_by_place, words_taken, joint_taken, seeds_taken, share_taken, query_taken}
-use Rattle.flp_generator.specs.Input.{measurement, residues, trial_encoding}
+use Rattle.flp_generator.specs.Sequence.{words_taken, joint_taken, seeds_taken, share_taken, query_taken}
+use Rattle.flp_generator.specs.Input.{measurement, trial_encoding}
 use Rattle.flp_generator.specs.Place.{unshared_words, honest_words}
 use Rattle.flp_generator.specs.Batch.{trial_shape}
 use Rattle.flp_generator.proofs.InputLemmas.{measured}
@@ -39,12 +39,10 @@ words-trial None circuit k is =
     All-map IsWord (λ (j : ℕ). (k + j) % 2) (range_with_len 0 (counted_lengths circuit).meas) (λ (i d : ℕ) (below : i < length (range_with_len 0 (counted_lengths circuit).meas)). omega arith)
 
 module _ (params : Option Params) (circuit : Program) (is : IsCircuitOf params circuit) (bounded : IsBounded circuit) (seed place : ℕ) where
-  abbrev shape : Shape
-  shape = trial_shape circuit
-
   abbrev lengths : Lengths
   lengths = counted_lengths circuit
 
+  -- what the place takes, and its parts
   abbrev taken : List ℕ
   taken = words_taken lengths seed place
 
@@ -71,6 +69,9 @@ module _ (params : Option Params) (circuit : Program) (is : IsCircuitOf params c
 
   abbrev made : List ℕ
   made = honest_words circuit x taken
+
+  abbrev shape : Shape
+  shape = trial_shape circuit
 
   long-unshared : length unshared ≡ part_words shape
   long-unshared = omega (arith, length-unshared params circuit is bounded seed place)

@@ -3,11 +3,10 @@ use Rattle.std.proofs.Common.{◌≡◌, ℕ, List, Option, Some, None, sym, ap,
 use Rattle.flp_syntax.specs.Tree.{Program}
 use Rattle.flp_report.specs.declared.fault.BatchFault.{BatchFault}
 use Rattle.flp_load.specs.Laws as load
-use Rattle.flp_batch.specs.declared.fault.EngineFault.{EngineFault}
 use Rattle.flp_batch.specs.declared.fault.EngineFault.TheVariants.{Memory, Read, Write, Batch, Circuit}
 use Rattle.flp_lengths.specs.Reading.{judged_text}
 use Rattle.flp_trial.specs.Text.{trial_text}
-use Rattle.flp_trial.specs.Reply.{size_fault, IsTrial, IsTooLarge}
+use Rattle.flp_trial.specs.Reply.{size_fault, IsTooLarge}
 use Rattle.flp_trial.specs.Laws.{OneTrial, OneFault, NeverBoth}
 
 pub one_trial : load.OneCircuit → OneTrial

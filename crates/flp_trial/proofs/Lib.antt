@@ -1,9 +1,13 @@
+-- a batch that is not too large
+mod SizeLemmas
 -- what is known of a batch that was verified in memory
-pub mod SummaryLemmas
+mod SummaryLemmas
+-- from a circuit's batch to the text of its trial
+mod TryLemmas
 -- what a run says of its input and its output
-pub mod ReplyLemmas
+mod ReplyLemmas
 -- no input has two replies
-pub mod LawLemmas
+mod LawLemmas
 -- which places are replayed
 mod NonceLemmas
 -- what is found at a place, by the words of its record

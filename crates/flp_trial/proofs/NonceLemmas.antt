@@ -1,7 +1,7 @@
 -- Which places of a trial are replayed: every eighth, and no other.
-use Rattle.std.proofs.Common.{ℕ, zero, suc, ◌≡◌, ◌≢◌, ◌+◌, ◌-◌, ◌*◌, ◌%◌, ◌^◌, ◌<◌, ◌≤◌, ◌==◌, List, [], ◌∷◌, length, map, slice_index, Option, inr, ⊎_elim, refl, sym, ap, ◌∙◌, arith}
-use Rattle.std.specs.Prelude.{if◌then◌else◌, Contains, ◌⊎◌}
-use Rattle.std.specs.List.{All, range_with_len}
+use Rattle.std.proofs.Common.{ℕ, zero, suc, ◌≡◌, ◌≢◌, ◌-◌, ◌%◌, ◌^◌, ◌<◌, ◌≤◌, ◌==◌, List, [], ◌∷◌, length, slice_index, Option, inr, ⊎_elim, refl, sym, ap, ◌∙◌, arith}
+use Rattle.std.specs.Prelude.{if◌then◌else◌, Contains}
+use Rattle.std.specs.List.{All}
 use Rattle.std.proofs.lemmas.List.{take_at}
 use Rattle.std.proofs.lemmas.List.Elements.{All-nil, All-cons}
 use Rattle.std.proofs.lemmas.List.FromFn.{length-map-range_with_len, get_or-map-range_with_len}
@@ -77,7 +77,7 @@ module _ (params : Option Params) (circuit : Program) (seed reports : ℕ) (smal
   length-records = length-map-range_with_len (trial_record params circuit seed) 0 reports
 
   pub record-at : (place : ℕ) → place < reports → report_at records place ≡ trial_record params circuit seed place
-  record-at place below = get_or-map-range_with_len (trial_record params circuit seed) 0 reports place place [] below refl
+  record-at place below = get_or-map-range_with_len (trial_record params circuit seed) 0 reports place place [] below (omega arith)
 
   nonce-at : (place : ℕ) → place < reports → nonce_in (report_at records place) ≡ trial_nonce seed place
   nonce-at place below =
@@ -111,8 +111,8 @@ module _ (params : Option Params) (circuit : Program) (seed reports : ℕ) (smal
         first,
         before,
         nonce-at first (omega (arith, before, below))
-        ∙ (ap (λ (n : ℕ). word_bytes (seed ∷ n ∷ [])) (there ∙ sym here)
-        ∙ sym (nonce-at place below)),
+            ∙ (ap (λ (n : ℕ). word_bytes (seed ∷ n ∷ [])) (there ∙ sym here)
+            ∙ sym (nonce-at place below)),
       )
 
   module _ (once : JudgesOnce circuit (trial_shape circuit) [] records) where

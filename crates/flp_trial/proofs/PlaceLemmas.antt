@@ -1,60 +1,37 @@
 -- What is found at each place of a circuit's trial.
-use Rattle.std.proofs.Common.{ℕ, ◌≡◌, ◌≢◌, ◌+◌, ◌*◌, ◌%◌, ◌^◌, ◌<◌, ◌≤◌, Bool, true, false, cond, ltb, List, [], length, Option, Some, None, refl, sym, ap, subst, ◌∙◌, arith}
-use Rattle.std.specs.Option.{option_map}
-use Rattle.std.proofs.lemmas.Bool.{ltb-false}
+use Rattle.std.proofs.Common.{ℕ, ◌≡◌, ◌≢◌, ◌+◌, ◌*◌, ◌%◌, ◌<◌, ◌≤◌, List, [], length, Option, Some, None, refl, sym, ap, subst, ◌∙◌, arith}
 use Rattle.flp_syntax.specs.declared.syntax.Params.{Params}
 use Rattle.flp_syntax.specs.Tree.{Program}
 use Rattle.flp_meaning.specs.Circuit.{IsValid}
 use Rattle.flp_meaning.specs.ProofLaws.{IsBounded}
 use Rattle.flp_meaning.specs.Verifier.{gadget_in_domain}
 use Rattle.flp_circuits.specs.Encoding.{encoding_of}
-use Rattle.flp_circuits.specs.Standard.{standard_program}
 use Rattle.flp_circuits.specs.Laws.{EncodingsAreValid}
 use Rattle.flp_plan.specs.Counted.{counted_lengths}
-use Rattle.flp_load.specs.Loaded.{IsLoaded}
 use Rattle.flp_load.specs.Laws.{LoadedIsBounded}
-use Rattle.flp_report.specs.declared.fault.BatchFault.{BatchFault}
 use Rattle.flp_report.specs.Shape.{bytes_of}
 use Rattle.flp_report.specs.Record.{words_in}
 use Rattle.flp_report.specs.Words.{bad_word_in}
 use Rattle.flp_policy.specs.declared.verdict.Verdict.{Verdict}
 use Rattle.flp_policy.specs.declared.verdict.Verdict.TheVariants.{Accepted, Rejected, InDomain, Malformed, Replayed}
 use Rattle.flp_worker.specs.Parts.{query_words}
+use Rattle.flp_worker.specs.Verdict.{verdict_of}
 use Rattle.flp_verdict.specs.Laws.{report_at, JudgesOnce, AcceptsHonest, IsHonest, IsHonestVerdict}
 use Rattle.flp_jobs.specs.Setting.{IsCircuitOf}
 use Rattle.flp_jobs.proofs.SettingLemmas.{circuit-of}
-use Rattle.flp_generator.specs.declared.change.Change.TheVariants.{Nothing, Proof, Point, Word, Nonce}
+use Rattle.flp_generator.specs.declared.change.Change.TheVariants.{Nothing, Point, Word, Nonce}
 use Rattle.flp_generator.specs.Sequence.{words_taken, joint_taken, query_taken}
 use Rattle.flp_generator.specs.Input.{measurement, trial_encoding}
 use Rattle.flp_generator.specs.Change.{change_at}
 use Rattle.flp_generator.specs.Place.{honest_words, trial_record}
-use Rattle.flp_generator.specs.Batch.{trial_shape, trial_records, trial_size, too_large}
+use Rattle.flp_generator.specs.Batch.{trial_shape, trial_records, too_large}
 use Rattle.flp_generator.specs.Laws.{WordsStayOut}
 use Rattle.flp_generator.proofs.InputLemmas.{measured}
-use Rattle.flp_trial.specs.Places.{IsTried, IsValidAt, trial_verdict, FindsAt, PlacesAreFound, StandardIsValid}
+use Rattle.flp_trial.specs.Places.{IsTried, IsValidAt, trial_verdict, FindsAt, StandardIsValid}
+use Rattle.flp_trial.proofs.SizeLemmas.{none-mapped, small-batch}
 use Rattle.flp_trial.proofs.NonceLemmas.{change-at, nothing-first, length-records, record-at, replayed, not_replayed, own-verdict}
 use Rattle.flp_trial.proofs.FoundLemmas.{found-word, found-point, read-honest, good-honest, points-outside}
 use Rattle.flp_trial.proofs.HonestPlaces.{is_honest, kept-query}
-
--- ---- sizes
-
-none-mapped : {A B : Type 0} (f : A → B) (o : Option A) → option_map f o ≡ None → o ≡ None
-none-mapped f None none = refl
-none-mapped f (Some a) none = cc
-
-second-false : (a b : Bool) (m n : ℕ) → cond a (Some m) (cond b (Some n) None) ≡ None → b ≡ false
-second-false true b m n none = cc
-second-false false true m n none = cc
-second-false false false m n none = refl
-
--- the records of a batch that is not too large
-small-batch : (circuit : Program) (text reports : ℕ) → too_large circuit text reports ≡ None → reports * bytes_of (trial_shape circuit) ≤ 1073741824
-small-batch circuit text reports none =
-    let size : ℕ = trial_size circuit text reports in
-    let whole : size ≤ 1073741824 =
-    ltb-false 1073741824 size
-    (second-false (ltb 16777216 (bytes_of (trial_shape circuit))) (ltb 1073741824 size) (bytes_of (trial_shape circuit)) size none) in
-    omega (arith, whole)
 
 -- ---- honest places
 
@@ -107,7 +84,7 @@ module _ (text : List ℕ) (params : Option Params) (circuit : Program) (seed re
       omega (arith, length-records params circuit seed reports tried.small_seed tried.few_reports, below) in
       accepted-of circuit report (trial_verdict params circuit seed reports place) (accepts place inside new good honest) outside
 
-  own : (change_at place ≡ Nonce → ⊥) → trial_verdict params circuit seed reports place ≡ _
+  own : (change_at place ≡ Nonce → ⊥) → trial_verdict params circuit seed reports place ≡ verdict_of circuit (trial_shape circuit) (trial_record params circuit seed place)
   own other = own-verdict params circuit seed reports tried.small_seed tried.few_reports once place below other
 
   pub finds : FindsAt params circuit seed reports place

@@ -9,7 +9,7 @@ use Rattle.flp_load.specs.Loaded.{IsLoaded}
 use Rattle.flp_batch.specs.declared.fault.EngineFault.{EngineFault}
 use Rattle.flp_batch.specs.declared.fault.EngineFault.TheVariants.{Memory, Read, Write, Batch, Circuit}
 use Rattle.flp_batch.specs.Fault.{IfFile}
-use Rattle.flp_lengths.specs.Reading.{judged_text, ReadsCircuit, FailsToRead}
+use Rattle.flp_lengths.specs.Reading.{ReadsCircuit, FailsToRead}
 use Rattle.flp_lengths.proofs.ReadingLemmas as reading
 use Rattle.flp_trial.specs.Reply.{size_fault, FailsToTry, IsTooLarge, IsFaultOfTrial, StopsBy}
 

@@ -36,4 +36,4 @@ summary_text by records = summary_lines (counts_by by records) (aggregate_by by 
 
 -- the text of a circuit's trial: that of the batch that is made from the seed. The number of workers is not in it
 abbrev pub trial_text : Option Params → Program → (seed reports : ℕ) → List ℕ
-trial_text params circuit seed reports = summary_text (trial_setting circuit) (trial_records params circuit seed reports)
+trial_text params circuit seed reports = summary_text (trial_setting params circuit) (trial_records params circuit seed reports)

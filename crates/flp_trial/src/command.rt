@@ -58,7 +58,10 @@ fn try_circuit<R: Threads + Sync, G: Gate>(
 {
     flp_generator::laws::trials_are_batches();
     let batch = make_trial(alloc, circuit, seed, reports)?;
-    let summary = summarize(rt, alloc, batch, workers, gate)?;
+    let summary = match summarize(rt, alloc, batch, workers, gate) {
+        Ok(summary) => summary,
+        Err(fault) => return Err(fault),
+    };
     match make_lines(alloc, &summary) {
         Ok(text) => Ok(text),
         Err(_) => Err(EngineFault::Memory),
