@@ -1,5 +1,5 @@
 -- A job file without a bad place: what its head says, that each of its jobs is good, and that its batch is read again.
-use Rattle.std.proofs.Common.{ℕ, ◌≡◌, ◌+◌, ◌*◌, ◌^◌, ◌<◌, ◌≤◌, List, [], ◌∷◌, ◌++◌, length, map, drop, get_or, ltb, Option, Some, None, refl, sym, subst, ◌∙◌, arith, append-nil}
+use Rattle.std.proofs.Common.{ℕ, ◌≡◌, ◌+◌, ◌*◌, ◌^◌, ◌<◌, ◌≤◌, List, [], ◌∷◌, ◌++◌, length, map, drop, get_or, ltb, Option, None, refl, sym, subst, ◌∙◌, arith, append-nil}
 use Rattle.std.specs.Prelude.{IfSome, if◌then◌else◌, not, nat_eq}
 use Rattle.std.specs.List.{All, concat, starts_with}
 use Rattle.std.proofs.Math.Nat.{mul-le-mul_left}
@@ -13,7 +13,7 @@ use Rattle.flp_report.specs.declared.header.Header.{Header}
 use Rattle.flp_report.specs.declared.shape.Shape.{Shape}
 use Rattle.flp_report.specs.Fault.{met, first_of, ended}
 use Rattle.flp_report.specs.Head.{number_at, numbers_fault, text_end, head_fault}
-use Rattle.flp_report.specs.Shape.{bytes_of, width_of}
+use Rattle.flp_report.specs.Shape.{width_of}
 use Rattle.flp_report.specs.Buckets.{HasBucket}
 use Rattle.flp_report.specs.Pieces.{IsCut}
 use Rattle.flp_report.specs.Batch.{batch_head_fault, batch_text_end, large_fault, claims_fault, records_fault, header_of, claims_of, claims_end, front_fault, fault_of, whole_records}
