@@ -1,4 +1,4 @@
-use Rattle.std.proofs.Common.{◌≡◌, List, ℕ, length, sym, subst, ◌∙◌, arith, Ok}
+use Rattle.std.proofs.Common.{◌≡◌, List, ℕ, length, sym, subst, ◌∙◌, Ok}
 use Rattle.flp_io.specs.declared.failed.Failed.{Failed}
 use Rattle.flp_report.specs.JobParts.{jobs_in, job_of}
 use Rattle.flp_jobs.specs.declared.rules.Joints.TheVariants.{First}

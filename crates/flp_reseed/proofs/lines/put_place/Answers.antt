@@ -1,4 +1,4 @@
-use Rattle.std.proofs.Common.{◌+◌, ◌∙◌, refl, arith}
+use Rattle.std.proofs.Common.{◌+◌, refl, arith}
 use Rattle.flp_report.specs.JobParts.{job_of}
 use Rattle.flp_jobs.specs.Reading.{setting_of}
 use Rattle.flp_known.proofs.PutsLemmas.{UpTo-none, UpTo-more, UpTo-stop}
