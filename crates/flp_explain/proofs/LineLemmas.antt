@@ -9,7 +9,7 @@ use Rattle.flp_report.specs.Record.{nonce_in, words_in}
 use Rattle.flp_report.specs.Words.{bad_word_in}
 use Rattle.flp_policy.specs.declared.verdict.Verdict.TheVariants.{Malformed}
 use Rattle.flp_weak.specs.declared.word.Weak.{Weak}
-use Rattle.flp_worker.specs.Parts.{proof_numbers, unshared_encoding}
+use Rattle.flp_worker.specs.Parts.{proof_numbers}
 use Rattle.flp_batch.specs.Setting.{Setting}
 use Rattle.flp_verdict.specs.Text.{spelled, line_with}
 use Rattle.flp_explain.specs.Found.{weak_among, weak_in, encoding_in}
@@ -39,14 +39,12 @@ module _ (joint : Bool) (by : Setting) (seen : Shape) (bytes : List ℕ) (same :
       ∙ (ap₂ (λ (l n : List ℕ). l ++ line_with n (spelled (Malformed word))) cleared named
       ∙ lines-seen (Some word) bad)
 
-  pub made-whole : (held : Shape) (words empty lines nonce x line : List ℕ) → held ≡ by.shape → bad_word_in (words_in seen bytes) ≡ None → empty ≡ []
-      → lines ≡ empty ++ flat_map (proof_line by.circuit held bytes) (proof_numbers held) → nonce ≡ nonce_in bytes
-      → words ≡ words_in seen bytes → x ≡ unshared_encoding held words → line ≡ lines ++ joint_lines joint by.params nonce x → line ≡ record_lines joint by bytes
-  made-whole held words empty lines nonce x line kept good cleared first named are unshared made =
-      let x_is : x ≡ encoding_in by.shape bytes =
-      unshared ∙ ap₂ (λ (s : Shape) (l : List ℕ). unshared_encoding s l) kept (are ∙ ap (λ (s : Shape). words_in s bytes) same) in
+  pub made-whole : (held : Shape) (empty lines line : List ℕ) → held ≡ by.shape → bad_word_in (words_in seen bytes) ≡ None → empty ≡ []
+      → lines ≡ empty ++ flat_map (proof_line by.circuit held bytes) (proof_numbers held)
+      → line ≡ lines ++ joint_lines joint by.params (nonce_in bytes) (encoding_in held bytes) → line ≡ record_lines joint by bytes
+  made-whole held empty lines line kept good cleared first made =
       made
-      ∙ (ap (λ (l : List ℕ). l ++ joint_lines joint by.params nonce x)
-      (first ∙ ap₂ (λ (l : List ℕ) (s : Shape). l ++ flat_map (proof_line by.circuit s bytes) (proof_numbers s)) cleared kept)
-      ∙ (ap₂ (λ (n e : List ℕ). flat_map (proof_line by.circuit by.shape bytes) (proof_numbers by.shape) ++ joint_lines joint by.params n e) named x_is
+      ∙ (ap (λ (l : List ℕ). l ++ joint_lines joint by.params (nonce_in bytes) (encoding_in held bytes))
+      (first ∙ ap (λ (l : List ℕ). l ++ flat_map (proof_line by.circuit held bytes) (proof_numbers held)) cleared)
+      ∙ (ap (λ (s : Shape). flat_map (proof_line by.circuit s bytes) (proof_numbers s) ++ joint_lines joint by.params (nonce_in bytes) (encoding_in s bytes)) kept
       ∙ lines-seen None good))

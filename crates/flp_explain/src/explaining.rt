@@ -3,13 +3,13 @@ ghost use Rattle.std.specs.Prelude.{◌≡◌, ◌++◌, ◌<◌, [], length, ve
 ghost use Rattle.std.specs.List.{flat_map};
 ghost use Rattle.std.proofs.Props.{props};
 ghost use Rattle.flp_report.specs.Shape.{words_of};
-ghost use Rattle.flp_report.specs.Record.{record_of, words_in};
+ghost use Rattle.flp_report.specs.Record.{record_of, nonce_in, words_in};
 ghost use Rattle.flp_worker.specs.Parts.{proof_numbers, unshared_encoding};
 ghost use Rattle.flp_worker.specs.Words.{shape_held, words_held};
 ghost use Rattle.flp_worker.specs.Worker.{IsShapeOf};
-ghost use Rattle.flp_explain.specs.Found.{weak_among};
+ghost use Rattle.flp_explain.specs.Found.{weak_among, encoding_in};
 ghost use Rattle.flp_explain.specs.Standard.{IsStandard};
-ghost use Rattle.flp_explain.specs.Text.{proof_line};
+ghost use Rattle.flp_explain.specs.Text.{proof_line, joint_lines};
 
 use crate::Memory;
 use crate::text::{push_joint_lines, push_proof_line};
@@ -19,6 +19,7 @@ use flp_load::Loaded;
 use flp_plan::Plan;
 use flp_policy::Verdict;
 use flp_report::{Record, Shape};
+use flp_syntax::Params;
 use flp_verdict::push_line;
 use flp_weak::{Weak, weak_word};
 use flp_worker::Words;
@@ -93,6 +94,24 @@ fn push_proof_lines(
     Ok(())
 }
 
+/// Appends the line of the encoding of a record with these words, where it is asked for.
+fn push_encoding_line(
+    line: &mut Vec<u8>,
+    joint: bool,
+    params: Option<Params>,
+    words: &Words,
+    given: &Record,
+    encoding: &[Fe],
+) -> Result<(), Memory>
+    requires words { words_held words.now ≡ words_in (shape_held words.now) (record_of given.now) }
+    requires encoding { encoding.now ≡ unshared_encoding (shape_held words.now) (words_held words.now) }
+    requires standard { IfSome params (IsStandard (length encoding.now)) }
+    ensures { OnOk result (line.new.items ≡ line.old.items
+        ++ joint_lines joint params (nonce_in (record_of given.now)) (encoding_in (shape_held words.now) (record_of given.now))) }
+{
+    push_joint_lines(line, given.nonce(), joint, params, encoding)
+}
+
 impl<'a> Explaining<'a> {
     ghost use Rattle.flp_explain.specs.Text.{words_by};
     ghost use Rattle.flp_explain.specs.Explaining.{setting_of, wording_of};
@@ -150,7 +169,14 @@ impl<'a> Judge for Explaining<'a> {
             &mut self.proof,
             line,
         )?;
-        push_joint_lines(line, given.nonce(), self.joint, self.loaded.params, &self.encoding)
+        push_encoding_line(
+            line,
+            self.joint,
+            self.loaded.params,
+            &words,
+            given,
+            &self.encoding,
+        )
     }
 
     fn end(&self, ending: &mut Vec<u8>) -> Result<(), AllocError> {
