@@ -6,6 +6,7 @@ pub mod SaysLemmas
 pub mod RunLemmas
 -- the end of each command
 pub mod BatchLemmas
+pub mod TrialLemmas
 pub mod WholeLemmas
 -- the laws of what is written
 pub mod HeadlineLemmas

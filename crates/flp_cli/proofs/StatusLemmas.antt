@@ -1,9 +1,11 @@
 -- Which status a fault has, and what is known of bytes that were read to their end.
-use Rattle.std.proofs.Common.{◌≡◌, ℕ, ◌++◌, Option, Some, None, List, [], refl, sym, ap, subst, ◌∙◌, inl, inr, ◌⊎◌, append-nil}
+use Rattle.std.proofs.Common.{◌≡◌, ℕ, ◌≤◌, ◌++◌, Option, Some, None, List, [], length, take, refl, sym, ap, subst, ◌∙◌, inl, inr, ◌⊎◌, append-nil, arith}
 use Rattle.std.specs.Prelude.{IfSome}
 use Rattle.std.specs.Io.KnownBytes.{Appends, Consumes, IsAtEnd, Keeps}
+use Rattle.std.proofs.lemmas.Grind.{common_steps}
 use Rattle.flp_report.specs.declared.fault.BatchFault.{BatchFault}
 use Rattle.flp_report.specs.declared.fault.BatchFault.TheVariants as file
+use Rattle.flp_lengths.specs.Reading.{judged_text}
 use Rattle.flp_cli.specs.Answers.{file_status}
 
 -- a file's fault has status 6 or 7
@@ -41,3 +43,10 @@ pub Appends-nothing : (a b : Option (List ℕ)) → Keeps a b → Appends a b []
 Appends-nothing None b kept = tt
 Appends-nothing (Some x) None kept = kept
 Appends-nothing (Some x) (Some y) kept = kept ∙ sym (append-nil x)
+
+-- a text that was read to its end has no byte behind the first 65,537
+all-taken : (most : ℕ) (text : List ℕ) → length text ≤ most → text ≡ take most text
+all-taken most text few = grind (arith, common_steps)
+
+pub whole-text : (text : List ℕ) → length text ≤ 65537 → text ≡ judged_text text
+whole-text text few = all-taken 65537 text few

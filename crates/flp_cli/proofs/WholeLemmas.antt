@@ -30,20 +30,24 @@ use Rattle.flp_verify.specs.Text.{verdict_lines}
 use Rattle.flp_prep.specs.Text.{prepared_lines}
 use Rattle.flp_explain.specs.Text.{explained_lines}
 use Rattle.flp_words.specs.declared.command.Command.{Command}
-use Rattle.flp_words.specs.declared.command.Command.TheVariants.{Verify, Prove, Lengths, Prep, Explain, Hide}
+use Rattle.flp_words.specs.declared.command.Command.TheVariants.{Verify, Prove, Lengths, Prep, Explain, Hide, Trial}
 use Rattle.flp_io.specs.Reads.{ConsumesAtMost}
 use Rattle.flp_lengths.specs.Reading.{judged_text}
 use Rattle.flp_lengths.specs.Reply.{WritesLengths, StopsInLengths, StopsBy, IsFaultOfText}
 use Rattle.flp_lengths.specs.Text.{lengths_text}
+use Rattle.flp_trial.specs.Laws as trial
+use Rattle.flp_lines.specs.declared.fault.FileKind.{FileKind}
+use Rattle.flp_lines.specs.declared.fault.FileKind.TheVariants as kind
 use Rattle.flp_lines.specs.Fault.{memory_line}
 use Rattle.flp_cli.specs.declared.answers.Ending.TheVariants as ending
 use Rattle.flp_cli.specs.Answers.{IsRefusalStatus, is_one_of, engine_status, file_status, status_of, all_done, by_file}
-use Rattle.flp_cli.specs.Runs.{Done, Withheld, Refused, Writes, StopsInReply, Runs}
+use Rattle.flp_cli.specs.Runs.{Reply, Done, Withheld, Refused, Writes, StopsInReply, Runs}
 use Rattle.flp_cli.specs.Ends.{HasOneReply, Finishes, RefusesInput, EndsAs}
-use Rattle.flp_cli.specs.Commands.{lines_reply, verify_reply, WritesNothing, jobs_duty, lengths_duty, duty_of}
+use Rattle.flp_cli.specs.Commands.{lines_reply, verify_reply, WritesNothing, jobs_duty, text_duty, lengths_reply, lengths_duty, trial_reply, duty_of}
 use Rattle.flp_cli.specs.Stream.{Stream, Says}
-use Rattle.flp_cli.proofs.StatusLemmas.{file-status}
+use Rattle.flp_cli.proofs.StatusLemmas.{file-status, whole-text}
 use Rattle.flp_cli.proofs.BatchLemmas.{OneSetting, NeverBoth, OneFault, batch-one, lines-one, batch-unread}
+use Rattle.flp_cli.proofs.TrialLemmas.{trial-one}
 use Rattle.flp_cli.proofs.RunLemmas.{not_refused, end-done, end-failed, run-memory, still, within-none}
 
 -- ---- a command that reads a job file
@@ -141,13 +145,6 @@ lengths-one never bytes (Refused (File f)) (Refused (File g)) x y = text-status 
 lengths-one never bytes (Refused (File f)) (Refused (Place p g)) x y = absurd y
 lengths-one never bytes (Refused (Place p f)) other x y = absurd x
 
--- a text that was read to its end has no byte behind the first 65,537
-all-taken : (most : ℕ) (text : List ℕ) → length text ≤ most → text ≡ take most text
-all-taken most text few = grind (arith, common_steps)
-
-whole-text : (text : List ℕ) → length text ≤ 65537 → text ≡ judged_text text
-whole-text text few = all-taken 65537 text few
-
 lengths-done : (input output : Stream) → WritesLengths input.old input.new output.old output.new → Finishes lengths_duty input output ending.Done
 lengths-done input output done =
     let reads = done.read in
@@ -215,14 +212,15 @@ lengths-ends input output (Err fault) done stopped ends =
 
 -- ---- one reply, whichever the command
 
-pub one-reply : OneSetting → NeverBoth → OneFault → jobs.NeverBoth → jobs.OneRefusal → load.NeverBoth
+pub one-reply : OneSetting → NeverBoth → OneFault → jobs.NeverBoth → jobs.OneRefusal → load.NeverBoth → trial.NeverBoth → trial.OneFault
     → (would : Answers) (command : Command) → HasOneReply (duty_of would command)
-one-reply setting never fault jobs refusal text would (Verify workers least claims) = batch-one setting never fault None (9 ∷ []) verdict_lines (verify_reply least would claims)
-one-reply setting never fault jobs refusal text would Prove = jobs-one jobs refusal prove_rules batch_text
-one-reply setting never fault jobs refusal text would Lengths = lengths-one text
-one-reply setting never fault jobs refusal text would (Prep party) = lines-one setting never fault (Some party) (prepared_lines party)
-one-reply setting never fault jobs refusal text would (Explain joint) = lines-one setting never fault None (explained_lines joint)
-one-reply setting never fault jobs refusal text would Hide = jobs-one jobs refusal hide_rules hidden_text
+one-reply setting never fault jobs refusal text trial one_trial would (Verify workers least claims) = batch-one setting never fault None (9 ∷ []) verdict_lines (verify_reply least would claims)
+one-reply setting never fault jobs refusal text trial one_trial would Prove = jobs-one jobs refusal prove_rules batch_text
+one-reply setting never fault jobs refusal text trial one_trial would Lengths = lengths-one text
+one-reply setting never fault jobs refusal text trial one_trial would (Prep party) = lines-one setting never fault (Some party) (prepared_lines party)
+one-reply setting never fault jobs refusal text trial one_trial would (Explain joint) = lines-one setting never fault None (explained_lines joint)
+one-reply setting never fault jobs refusal text trial one_trial would Hide = jobs-one jobs refusal hide_rules hidden_text
+one-reply setting never fault jobs refusal text trial one_trial would (Trial workers seed reports) = trial-one trial one_trial seed reports
 
 -- ---- no memory for the words
 
@@ -232,11 +230,11 @@ jobs-unread rules text left taken reads writes errors line =
     run-memory (jobs_duty rules text) (still left reads) (still taken writes) errors
     ((λ is. omega arith), Keeps-refl taken) (inl (within-none (front_size (job_files rules.written)) left)) line
 
-pub lengths-unread : (left taken : Option (List ℕ)) (reads writes : ℕ) (errors : Stream) → Says errors memory_line
-    → Runs lengths_duty (still left reads) (still taken writes) errors 3
-lengths-unread left taken reads writes errors line =
+pub text-unread : (kind : FileKind) (statuses : List ℕ) (replies : List ℕ → Reply → Type 0) (left taken : Option (List ℕ)) (reads writes : ℕ) (errors : Stream) → Says errors memory_line
+    → Runs (text_duty kind statuses replies) (still left reads) (still taken writes) errors 3
+text-unread kind statuses replies left taken reads writes errors line =
     let none : 0 ≤ 65537 = omega arith in
-    run-memory lengths_duty (still left reads) (still taken writes) errors
+    run-memory (text_duty kind statuses replies) (still left reads) (still taken writes) errors
     (record { nothing = ((λ is. omega arith), Keeps-refl taken); judged = λ is. absurd (omega arith) })
     (record { bytes = []; few = none; gone = Consumes-nil left }) line
 
@@ -247,12 +245,14 @@ pub unread : (would : Answers) (command : Command) (left taken : Option (List �
 unread would (Verify workers least claims) left taken reads writes errors line =
     batch-unread None (9 ∷ []) verdict_lines (verify_reply least would claims) left taken reads writes errors line
 unread would Prove left taken reads writes errors line = jobs-unread prove_rules batch_text left taken reads writes errors line
-unread would Lengths left taken reads writes errors line = lengths-unread left taken reads writes errors line
+unread would Lengths left taken reads writes errors line = text-unread kind.Circuit (7 ∷ []) lengths_reply left taken reads writes errors line
 unread would (Prep party) left taken reads writes errors line =
     batch-unread (Some party) [] (prepared_lines party) (lines_reply (prepared_lines party)) left taken reads writes errors line
 unread would (Explain joint) left taken reads writes errors line =
     batch-unread None [] (explained_lines joint) (lines_reply (explained_lines joint)) left taken reads writes errors line
 unread would Hide left taken reads writes errors line = jobs-unread hide_rules hidden_text left taken reads writes errors line
+unread would (Trial workers seed reports) left taken reads writes errors line =
+    text-unread kind.Batch (6 ∷ 7 ∷ []) (trial_reply seed reports) left taken reads writes errors line
 
 -- the run of a command that has another name
 pub run-for : (would : Answers) (command other : Command) (input output errors : Stream) (status : ℕ) → command ≡ other

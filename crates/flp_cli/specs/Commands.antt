@@ -26,9 +26,11 @@ use Rattle.flp_io.specs.Reads.{ConsumesAtMost}
 use Rattle.flp_lengths.specs.Reading.{judged_text, ReadsFault}
 use Rattle.flp_lengths.specs.Reply.{IsFaultOfText}
 use Rattle.flp_lengths.specs.Text.{lengths_text}
+use Rattle.flp_trial.specs.Reply.{IsTrial, IsFaultOfTrial}
+use Rattle.flp_lines.specs.declared.fault.FileKind.{FileKind}
 use Rattle.flp_lines.specs.declared.fault.FileKind.TheVariants as kind
 use Rattle.flp_words.specs.declared.command.Command.{Command}
-use Rattle.flp_words.specs.declared.command.Command.TheVariants.{Verify, Prove, Lengths, Prep, Explain, Hide}
+use Rattle.flp_words.specs.declared.command.Command.TheVariants.{Verify, Prove, Lengths, Prep, Explain, Hide, Trial}
 use Rattle.flp_cli.specs.Runs.{Reply, Done, Withheld, Refused, Duty}
 use Rattle.flp_cli.specs.Stream.{Stream}
 
@@ -131,14 +133,29 @@ pub record WritesNoLengths (status : ℕ) (input output : Stream) : Type 0 where
   pub nothing : WritesNothing status input output
   pub judged : status ≡ 7 → (fault : CircuitFault) × ReadsFault input.old input.new fault
 
-abbrev pub lengths_duty : Duty
-lengths_duty = record {
-  kind = kind.Circuit;
-  statuses = 7 ∷ [];
-  replies = lengths_reply;
+-- a command that reads a circuit's text
+abbrev pub text_duty : FileKind → (statuses : List ℕ) → (List ℕ → Reply → Type 0) → Duty
+text_duty kind statuses replies = record {
+  kind = kind;
+  statuses = statuses;
+  replies = replies;
   early = WritesNoLengths;
   takes = ConsumesAtMost 65537;
 }
+
+abbrev pub lengths_duty : Duty
+lengths_duty = text_duty kind.Circuit (7 ∷ []) lengths_reply
+
+-- ---- `trial`, whose batch is too large or has a text: no number of workers is in it
+
+abbrev pub trial_reply : (seed reports : ℕ) → List ℕ → Reply → Type 0
+trial_reply seed reports bytes (Done text) = IsTrial seed reports bytes text
+trial_reply seed reports bytes (Withheld text) = ⊥
+trial_reply seed reports bytes (Refused (File fault)) = IsFaultOfTrial reports bytes fault
+trial_reply seed reports bytes (Refused (Place place fault)) = ⊥
+
+abbrev pub trial_duty : (seed reports : ℕ) → Duty
+trial_duty seed reports = text_duty kind.Batch (6 ∷ 7 ∷ []) (trial_reply seed reports)
 
 -- ---- the table of commands
 
@@ -149,3 +166,4 @@ duty_of would Lengths = lengths_duty
 duty_of would (Prep party) = lines_duty (Some party) (prepared_lines party)
 duty_of would (Explain joint) = lines_duty None (explained_lines joint)
 duty_of would Hide = jobs_duty hide_rules hidden_text
+duty_of would (Trial workers seed reports) = trial_duty seed reports

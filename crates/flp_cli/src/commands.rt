@@ -18,6 +18,7 @@ use flp_policy::Policy;
 use flp_pool::Gate;
 use flp_prep::prep;
 use flp_reseed::hide;
+use flp_trial::trial;
 use flp_verify::{End, EngineFault, verify};
 use flp_words::Command;
 use std::alloc::Global;
@@ -65,6 +66,7 @@ fn kind_of(command: Command) -> FileKind
         Command::Prep(_) => FileKind::Batch,
         Command::Explain { .. } => FileKind::Batch,
         Command::Hide => FileKind::Job,
+        Command::Trial { .. } => FileKind::Batch,
     }
 }
 
@@ -107,6 +109,13 @@ fn perform<R: Threads + Sync, S: Source, K: Sink, G: Gate>(
         Command::Prep(party) => by_file(all_done(prep(alloc, party, input, output))),
         Command::Explain { joint } => by_file(all_done(explain(alloc, joint, input, output))),
         Command::Hide => all_done(hide(alloc, input, output)),
+        Command::Trial {
+            workers,
+            seed,
+            reports,
+        } => by_file(all_done(trial(
+            rt, alloc, input, output, seed, reports, workers, gate,
+        ))),
     }
 }
 
@@ -117,6 +126,7 @@ fn one_reply()
     flp_batch::laws::one_answer();
     flp_jobs::laws::one_answer();
     flp_load::laws::one_answer();
+    flp_trial::laws::one_answer();
 }
 
 /// The status of a command that ended so, and the line on `errors` where it failed.

@@ -31,8 +31,10 @@ use std::thread::Threads;
 /// `explain` reads a batch and writes for each proof of each report the query word that limits it and how many values
 /// of that word are accepted at most, or that the encoding is valid; with `--joint` also whether the encoding is that of
 /// a measurement, and else which joint word catches it. `hide` reads a job file and writes for each place but the first
-/// and each proof the seeds with which that measurement's proof has the verifier of the first's. For each status but 0 and
-/// 9 one line goes to `errors`, whose faults change no answer.
+/// and each proof the seeds with which that measurement's proof has the verifier of the first's. `trial --seed X --reports N
+/// --workers W`, X to 4,294,967,295, N to 1,000,000 and W from 1 to 16, reads a circuit text as `lengths` does, makes a batch
+/// of N reports of it from the seed, has W threads verify it, and writes how many have which verdict, and the aggregate.
+/// For each status but 0 and 9 one line goes to `errors`, whose faults change no answer.
 ///
 /// | status | meaning | fact of `Runs` |
 /// |---|---|---|
@@ -41,7 +43,7 @@ use std::thread::Threads;
 /// | 3 | want of memory | `known` |
 /// | 4 | the input failed | `read_fault` |
 /// | 5 | the output failed | `write_fault` |
-/// | 6 | the input is no batch, or no job file | `refused` |
+/// | 6 | the input is no batch, or no job file, or the batch of a trial is too large | `refused` |
 /// | 7 | the circuit is refused; nothing was written | `refused`, `stopped` |
 /// | 8 | a measurement or an encoding is refused; nothing was written | `refused`, `stopped` |
 /// | 9 | the aggregate is withheld; the input was read to its end | `withheld` |
@@ -51,7 +53,7 @@ use std::thread::Threads;
 /// the reports that were read whole, or, where its own fault came later, of the text; that of `prep`
 /// and of `explain` a prefix of the lines of the reports that were read whole. After 4 and 6 the lines
 /// of all segments in front of the one that could not be read are among them. After 5 the output of
-/// `lengths` and of `hide` has taken a prefix of its lines and that of `prove` a prefix of the batch. The policies,
+/// `lengths`, of `trial` and of `hide` has taken a prefix of its lines and that of `prove` a prefix of the batch. The policies,
 /// fewer than 4,294,967,295, are told the verdicts by `verify` alone, and all are dropped within the call.
 pub fn run<R: Threads + Sync, S: Source, K: Sink, E: Sink, G: Gate>(
     rt: &R,
@@ -103,4 +105,5 @@ fn headline()
     flp_jobs::laws::reads_back();
     flp_jobs::laws::records_are_honest();
     flp_reseed::laws::seeds_match();
+    flp_trial::laws::places();
 }

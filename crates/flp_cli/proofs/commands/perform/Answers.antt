@@ -8,6 +8,7 @@ use Rattle.flp_jobs.specs.Reply.{prove_rules}
 use Rattle.flp_reseed.specs.Reply.{hide_rules}
 use Rattle.flp_reseed.specs.Text.{hidden_text}
 use Rattle.flp_cli.proofs.WholeLemmas.{jobs-ends, lengths-ends}
+use Rattle.flp_cli.proofs.TrialLemmas.{trial-ends}
 use Rattle.flp_cli.proofs.commands.perform.Goals as goal
 
 pub returns-in-Verify : goal.returns-in-Verify
@@ -45,8 +46,15 @@ returns-in-Explain g c =
     rw (c.in-Explain.is, c.by_file-in-Explain.ensures, c.all_done-in-Explain.ensures)
     (lines-ends None (explained_lines joint) _ _ c.explain.result answer.done answer.stopped answer.kept answer.settled answer.ends)
 
-pub returns : goal.returns
-returns g c =
+pub returns-in-Hide : goal.returns-in-Hide
+returns-in-Hide g c =
     let answer = c.hide.ensures in
     rw (c.in-Hide.is, c.all_done-in-Hide.ensures)
     (jobs-ends hide_rules hidden_text _ _ c.hide.result answer.done answer.kept answer.stopped answer.ends)
+
+pub returns : goal.returns
+returns g c =
+    let answer = c.trial.ensures in
+    let trial = c.in-Trial in
+    rw (trial.is, c.by_file-in-Trial.ensures, c.all_done-in-Trial.ensures)
+    (trial-ends trial.seed trial.reports _ _ c.trial.result answer.done answer.stopped answer.ends)
