@@ -1,11 +1,12 @@
 #!/usr/bin/env python3
 """Draws the pictures of the documents, as SVG.
 
-    draw.py             writes docs/layers.svg, docs/record.svg and docs/costs.svg
+    draw.py             writes docs/layers.svg, record.svg, costs.svg and beside.svg
     draw.py --check     names those that differ from what would be written
 
-The layers are those of crates.txt, whose comments name a layer, as "# language: circuit texts". The costs are the table
-of docs/COSTS.md with the reports a second of each circuit.
+The layers are those of crates.txt, whose comments name a layer, as "# language: circuit texts". The costs are two
+tables of docs/COSTS.md: the reports a second of each circuit, and how many times as long they take as by a hand-tuned
+program.
 """
 import os
 import re
@@ -23,7 +24,8 @@ def read(name):
 
 def svg(height, parts):
     """A picture of this height with these parts, on white."""
-    head = f'<svg xmlns="http://www.w3.org/2000/svg" viewBox="0 0 {WIDTH} {height}" font-family="sans-serif" font-size="12">'
+    size = f'viewBox="0 0 {WIDTH} {height}" font-family="sans-serif" font-size="12"'
+    head = f'<svg xmlns="http://www.w3.org/2000/svg" {size}>'
     ground = f'<rect x="0" y="0" width="{WIDTH}" height="{height}" fill="#ffffff"/>'
     return "\n".join([head, ground, *parts, "</svg>", ""])
 
@@ -35,7 +37,8 @@ def text(x, y, words, anchor="middle", size=12):
 
 def box(x, y, wide, tall, colour, title=""):
     inner = f"<title>{title}</title>" if title else ""
-    return f'<rect x="{x:g}" y="{y:g}" width="{wide:g}" height="{tall:g}" rx="4" fill="{colour}" stroke="{LINE}">{inner}</rect>'
+    place = f'x="{x:g}" y="{y:g}" width="{wide:g}" height="{tall:g}"'
+    return f'<rect {place} rx="4" fill="{colour}" stroke="{LINE}">{inner}</rect>'
 
 
 # ---- the layers of crates
@@ -65,7 +68,7 @@ def all_below(below):
 def nearest(below):
     """For each crate those that it stands on and that none of the others stands on."""
     whole = all_below(below)
-    return {name: [dep for dep in deps if not any(dep in whole[other] for other in deps)] for name, deps in below.items()}
+    return {name: [dep for dep in deps if not any(dep in whole[over] for over in deps)] for name, deps in below.items()}
 
 
 def rows_of(names, below):
@@ -114,7 +117,8 @@ def draw_layers():
         for dep in spots:
             x1, y1, x2, y2 = middle[name], top[name] + tall, middle[dep], top[dep]
             half = (y1 + y2) / 2
-            parts.append(f'<path d="M{x1:.0f} {y1:.0f} C{x1:.0f} {half:.0f} {x2:.0f} {half:.0f} {x2:.0f} {y2:.0f}" fill="none" stroke="{LINE}"/>')
+            curve = f"M{x1:.0f} {y1:.0f} C{x1:.0f} {half:.0f} {x2:.0f} {half:.0f} {x2:.0f} {y2:.0f}"
+            parts.append(f'<path d="{curve}" fill="none" stroke="{LINE}"/>')
     for name in below:
         said = f"{name} stands on {', '.join(below[name]) or 'none'}"
         boxes.append(box(middle[name] - wide / 2, top[name], wide, tall, "#ffffff", said))
@@ -143,7 +147,9 @@ ENDS = [
 
 
 def step_box(x, y, wide, words, crate, said, colour):
-    return [box(x, y, wide, 58, colour), text(x + wide / 2, y + 18, words, size=13), text(x + wide / 2, y + 34, crate), text(x + wide / 2, y + 50, said, size=10)]
+    middle = x + wide / 2
+    lines = [text(middle, y + 18, words, size=13), text(middle, y + 34, crate), text(middle, y + 50, said, size=10)]
+    return [box(x, y, wide, 58, colour), *lines]
 
 
 def arrow(x1, y1, x2, y2):
@@ -169,21 +175,38 @@ def draw_record():
 # ---- what a report costs
 
 
-def draw_costs():
-    page = read("docs/COSTS.md")
-    table = re.search(r"\| circuit \| bytes of a report \| reports a second \|\n\|[-|]+\n((?:\|.*\n)+)", page).group(1)
-    rows = [[cell.strip() for cell in line.strip("|").split("|")] for line in table.splitlines()]
-    costs = [(name, size, 1e6 / int(rate.replace(",", ""))) for name, size, rate in rows]
-    most = max(cost for _, _, cost in costs)
-    parts, y = [text(10, 20, "microseconds a report, two shares and one proof, one worker (docs/COSTS.md)", "start", 13)], 36
-    for name, size, cost in costs:
-        long = 560 * cost / most
-        parts += [text(330, y + 17, name, "end"), box(340, y, long, 24, BAR), text(350 + long, y + 17, f"{cost:.1f}, {size} bytes", "start")]
+def table(columns):
+    """The rows of the table of docs/COSTS.md with these columns."""
+    head = "| " + " | ".join(columns) + " |\n"
+    rows = read("docs/COSTS.md").split(head)[1].split("\n\n")[0].splitlines()[1:]
+    return [[cell.strip() for cell in row.strip("|").split("|")] for row in rows]
+
+
+def bars(title, rows):
+    """A bar for each row of a name, a number and the words behind the bar."""
+    most = max(number for _, number, _ in rows)
+    parts, y = [text(10, 20, title, "start", 13)], 36
+    for name, number, words in rows:
+        long = 560 * number / most
+        parts += [text(330, y + 17, name, "end"), box(340, y, long, 24, BAR), text(350 + long, y + 17, words, "start")]
         y += 34
     return svg(y + 4, parts)
 
 
-PICTURES = {"layers": draw_layers, "record": draw_record, "costs": draw_costs}
+def draw_costs():
+    rows = []
+    for name, size, rate in table(["circuit", "bytes of a report", "reports a second"]):
+        cost = 1e6 / int(rate.replace(",", ""))
+        rows.append((name, cost, f"{cost:.1f}, {size} bytes"))
+    return bars("microseconds a report, two shares and one proof, one worker (docs/COSTS.md)", rows)
+
+
+def draw_beside():
+    rows = [(name, float(ratio), ratio) for name, ratio in table(["report", "times as long"])]
+    return bars("times as long as a hand-tuned program without proofs, one worker (docs/COSTS.md)", rows)
+
+
+PICTURES = {"layers": draw_layers, "record": draw_record, "costs": draw_costs, "beside": draw_beside}
 
 
 def main():

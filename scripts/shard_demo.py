@@ -5,10 +5,10 @@
                   [--dask | --scheduler ADDRESS] [--keep FOLDER]
 
 The batch has N reports (1,000,000) of which most are honest, some false, some malformed, some repeat an earlier nonce
-and some an old claim. Each step is printed with its seconds and, for runs of `flp verify`, the largest peak of memory. Parts
-are verified J at a time (4), by W workers each (1): by this program alone, on the processes of a cluster that Dask
-starts here (--dask), or on those of a scheduler that runs (--scheduler), which must see the same folder. FLP names the
-program where it is not crates/flp/out/flp. Dask is Debian's python3-distributed: run it then by /usr/bin/python3.
+and some an old claim. Each step is printed with its seconds and, for runs of `flp verify`, the largest peak of memory.
+Parts are verified J at a time (4), by W workers each (1): by this program alone, on the processes of a cluster that
+Dask starts here (--dask), or on those of a scheduler that runs (--scheduler), which must see the same folder. FLP names
+the program where it is not crates/flp/out/flp. Dask is Debian's python3-distributed: run it by /usr/bin/python3.
 """
 import argparse
 import concurrent.futures
@@ -17,39 +17,21 @@ import os
 import random
 import struct
 import subprocess
-import sys
 import tempfile
 import time
 
-TOP = os.path.dirname(os.path.dirname(os.path.abspath(__file__)))
-sys.path.insert(0, os.path.join(TOP, "clients", "python"))
-import flp_client as client  # noqa: E402
-import measure  # noqa: E402
+import measure  # which finds the client
+import flp_client as client
+from random_inputs import measurement
 
 POOL = 500  # honest reports that `flp prove` makes; the batch repeats them under nonces of their own
 CLAIMS = 1000
 
 
-def measurement(text, drawn):
-    """A random measurement of a standard circuit."""
-    given = {word.split("=")[0]: int(word.split("=")[1].rstrip(";")) for word in text.split() if "=" in word}
-    name = text.split()[1].rstrip(";")
-    if name == "count":
-        return [drawn.randrange(2)]
-    if name == "sum":
-        return [drawn.randrange(given["max"] + 1)]
-    if name == "histogram":
-        return [drawn.randrange(given["length"])]
-    if name == "sumvec":
-        return [drawn.randrange(2 ** given["bits"]) for _ in range(given["length"])]
-    ones = set(drawn.sample(range(given["length"]), given["weight"]))
-    return [int(place in ones) for place in range(given["length"])]
-
-
 def honest_records(program, text, drawn):
     """Honest reports in two shares with one proof, without their nonces."""
     lengths = client.lengths_for(text, None)
-    jobs = client.job_file(text, lengths, 2, 1, [measurement(text, drawn) for _ in range(POOL)])
+    jobs = client.job_file(text, lengths, 2, 1, [measurement(drawn, text)[0] for _ in range(POOL)])
     batch = io.BytesIO(subprocess.run([program, "prove"], input=jobs, capture_output=True, check=True).stdout)
     front = client.read_front(batch)
     size = front.record_size()

@@ -10,9 +10,9 @@
 `jobs` takes a row of numbers for each report, its measurement, or of another circuit than the standard ones the words
 of its encoding, and draws nonces, shares and seeds from the system's randomness. CIRCUIT is a file with the circuit's
 text. `split` puts the records of batches, one behind the other, into N batches by their nonces, PREFIX0.batch and so
-on, so that equal nonces and their old claims meet in one of them. `add` makes one text of what `flp verify` printed of such parts, without the
-verdicts where --ending is given, and withholds the aggregate of fewer than M reports. `verdicts` counts the verdicts
-of a text by kind, and `chart` draws its aggregate as bars.
+on, so that equal nonces and their old claims meet in one of them. `add` makes one text of what `flp verify` printed of
+such parts, without the verdicts where --ending is given, and withholds the aggregate of fewer than M reports.
+`verdicts` counts the verdicts of a text by kind, and `chart` draws its aggregate as bars.
 
 The lengths of a standard circuit are worked out here; for another circuit, TEXT is what `flp lengths` printed.
 """

@@ -30,9 +30,9 @@ use Rattle.flp_batch.specs.Format.{batches, newest_read}
 use Rattle.flp_batch.specs.File.{IsBatch, IsFault, TakesFile, TakesFew}
 use Rattle.flp_batch.specs.Lines.{Wording, lines_from, lines_of}
 use Rattle.flp_batch.specs.Opened.{setting_of, records_size, IsRecordsFault, IsOpened, Opens}
-use Rattle.flp_batch.specs.Reply.{WritesText, StopsInText, StopsEarly, SettlesEarly}
+use Rattle.flp_batch.specs.Reply.{WritesOf, StopsInText, text_on, StopsEarly, SettlesEarly}
 use Rattle.flp_batch.specs.Setting.{Setting}
-use Rattle.flp_batch.specs.Walk.{Stops, Settles, Tells, TellsFront, StopsWalk}
+use Rattle.flp_batch.specs.Walk.{Stops, Settles, TellsOf, StopsWalk}
 use Rattle.flp_batch.proofs.LineLemmas.{lines-joined}
 use Rattle.flp_batch.proofs.FileLemmas.{size-front, behind, fault-records}
 
@@ -67,10 +67,10 @@ whole-behind party o first left opens rs number sizes =
       whole = bare ∙ whole_records-all newest_read party o.shape opens.front [] o.header rs opens.begins sizes placed number;
     }
 
-pub WritesText-behind : (party : Option ℕ) (o : Opened) (words : Setting → Wording) (first left left' taken taken' : Option (List ℕ))
-    → Opens party first left o → Tells (bytes_of o.shape) o.header.reports (words (setting_of o)).text left left' taken taken'
-    → WritesText party (λ by. (words by).text) first left' taken taken'
-WritesText-behind party o words first left left' taken taken' opens all =
+abbrev pub WritesOf-behind : (writes : (taken taken' : Option (List ℕ)) → List ℕ → Type 0) (party : Option ℕ) (o : Opened) (text : Setting → List (List ℕ) → List ℕ) (first left left' taken taken' : Option (List ℕ))
+    → Opens party first left o → TellsOf writes (bytes_of o.shape) o.header.reports (text (setting_of o)) left left' taken taken'
+    → WritesOf writes party text first left' taken taken'
+WritesOf-behind writes party o text first left left' taken taken' opens all =
     let rest = concat all.records in
     let is = whole-behind party o first left opens all.records all.number all.sizes in
     record {
@@ -80,24 +80,21 @@ WritesText-behind party o words first left left' taken taken' opens all =
       read = Consumes-trans first left left' opens.front rest opens.read all.read;
       ended = all.ended;
       is_batch = is.is_batch;
-      written = subst (λ (rs : List (List ℕ)). Appends taken taken' ((words (setting_of o)).text rs)) (sym is.whole) all.written;
+      written = subst (λ (rs : List (List ℕ)). writes taken taken' (text (setting_of o) rs)) (sym is.whole) all.written;
     }
 
-StopsInText-behind : (party : Option ℕ) (o : Opened) (words : Setting → Wording) (first left left' taken taken' : Option (List ℕ))
-    → Opens party first left o → TellsFront (bytes_of o.shape) o.header.reports (words (setting_of o)).text left left' taken taken'
-    → StopsInText party (λ by. (words by).text) first left' taken taken'
-StopsInText-behind party o words first left left' taken taken' opens all =
-    let rest = concat all.records in
-    let is = whole-behind party o first left opens all.records all.number all.sizes in
-    record {
-      bytes = opens.front ++ rest;
-      params = o.loaded.params;
-      setting = setting_of o;
-      read = Consumes-trans first left left' opens.front rest opens.read all.read;
-      ended = all.ended;
-      is_batch = is.is_batch;
-      written = subst (λ (rs : List (List ℕ)). TakesPrefix taken taken' ((words (setting_of o)).text rs)) (sym is.whole) all.written;
-    }
+-- the same batch, where more was written of another text
+pub WritesOf-then : {writes : (taken taken' : Option (List ℕ)) → List ℕ → Type 0} {party : Option ℕ} {left left' taken taken' taken'' : Option (List ℕ)} (more : (taken taken' : Option (List ℕ)) → List ℕ → Type 0) (text text' : Setting → List (List ℕ) → List ℕ)
+    → (all : WritesOf writes party text left left' taken taken') → more taken taken'' (text_on party text' all.bytes all.setting) → WritesOf more party text' left left' taken taken''
+WritesOf-then more text text' all written = record {
+  bytes = all.bytes;
+  params = all.params;
+  setting = all.setting;
+  read = all.read;
+  ended = all.ended;
+  is_batch = all.is_batch;
+  written = written;
+}
 
 -- an end among the records is one among the whole records of the bytes that were read
 pub StopsEarly-behind : (party : Option ℕ) (o : Opened) (words : Setting → Wording) (first left left' taken taken' : Option (List ℕ))
@@ -155,7 +152,7 @@ pub stops-behind : {T : Type 0} (party : Option ℕ) (o : Opened) (words : Setti
 stops-behind party o words first left left' taken taken' result opens =
     ⊎_elim
     (λ early. inl (StopsEarly-behind party o words first left left' taken taken' opens early))
-    (λ late. inr (late.0, StopsInText-behind party o words first left left' taken taken' opens late.1))
+    (λ late. inr (late.0, WritesOf-behind TakesPrefix party o (λ by. (words by).text) first left left' taken taken' opens late.1))
 
 -- where the text is the lines alone, a prefix of the text is one of the lines
 pub early-lines : (party : Option ℕ) (words : Setting → Wording) (W : Type 0) (left left' taken taken' : Option (List ℕ))

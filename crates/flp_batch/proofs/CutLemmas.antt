@@ -50,7 +50,7 @@ settled-below size i whole some less =
     mul-le-mul_right size most
 
 -- no more are settled than came
-settled-most : (s : Shape) (whole : ℕ) → settled s whole ≤ whole
+pub settled-most : (s : Shape) (whole : ℕ) → settled s whole ≤ whole
 settled-most s whole = div-mul-le_self whole (segment_of s)
 
 -- whole segments of `size` records, and fewer than one more
@@ -60,7 +60,7 @@ few-behind size n i count more few less =
     omega (arith, few, less, one)
 
 -- behind whole segments and fewer bytes than one more has
-settled-cut : (s : Shape) (n i count more : ℕ) → count ≤ segment_of s → more < count * bytes_of s
+pub settled-cut : (s : Shape) (n i count more : ℕ) → count ≤ segment_of s → more < count * bytes_of s
     → settled s (min n (i * segment_of s + more / bytes_of s)) ≤ i * segment_of s
 settled-cut s n i count more few less =
     let some : 0 < bytes_of s = omega (arith, bytes_least s) in
@@ -86,12 +86,6 @@ segments-next size n k count is below before more =
     let whole : count ≡ size = omega (arith, is, more) in
     let one : (at.0 + 1) * size ≡ at.0 * size + size = omega arith in
     (at.0 + 1, omega (arith, at.1, whole, one))
-
--- the next segment stands in front of the end
-pub fits-before : (size i count n : ℕ) → i + count ≤ n → i * size + count * size ≤ n * size + 1
-fits-before size i count n fits =
-    let grown : (i + count) * size ≤ n * size = mul-le-mul_right size fits in
-    omega (arith, grown)
 
 -- ---- bytes
 
@@ -137,42 +131,6 @@ file-input P Write other = tt
 file-input P (Batch fault) other = absurd (other tt)
 file-input P (Circuit fault) other = absurd (other tt)
 
--- ---- lines
-
--- in front of a segment that was not read
-Settles-cut : (s : Shape) (n k i count : ℕ) (line : List (List ℕ) → List ℕ → List ℕ) (follows : List (List ℕ) → Type 0) (left left' left'' taken taken' : Option (List ℕ))
-    → Judges (bytes_of s) k line follows left left' taken taken' → k ≡ i * segment_of s → k + count ≤ n → count ≤ segment_of s
-    → ConsumesLess (count * bytes_of s) left' left'' → Settles s n line left left'' taken taken'
-Settles-cut s n k i count line follows left left' left'' taken taken' all at fits few some =
-    let rs = all.records in
-    let number : length rs ≡ i * segment_of s = all.number ∙ at in
-    record {
-      records = rs;
-      tail = some.bytes;
-      number = omega (arith, all.number, fits);
-      sizes = all.sizes;
-      read = Consumes-trans left left' left'' (concat rs) some.bytes all.read some.gone;
-      least = subst (λ (m : ℕ). settled s (min n (m + length some.bytes / bytes_of s)) ≤ m) (sym number) (settled-cut s n i count (length some.bytes) few some.less);
-      written = all.written;
-    }
-
--- behind all records
-Settles-all : (s : Shape) (n limit : ℕ) (line : List (List ℕ) → List ℕ → List ℕ) (follows : List (List ℕ) → Type 0) (left left' left'' taken taken' : Option (List ℕ))
-    → Judges (bytes_of s) n line follows left left' taken taken' → ConsumesAtMost limit left' left'' → Settles s n line left left'' taken taken'
-Settles-all s n limit line follows left left' left'' taken taken' all some =
-    let rs = all.records in
-    let came = min n (length rs + length some.bytes / bytes_of s) in
-    let most = settled-most s came in
-    record {
-      records = rs;
-      tail = some.bytes;
-      number = omega (arith, all.number);
-      sizes = all.sizes;
-      read = Consumes-trans left left' left'' (concat rs) some.bytes all.read some.gone;
-      least = omega (arith, most, all.number);
-      written = all.written;
-    }
-
 -- what a reader answers that could not read a segment
 abbrev pub ReadFails : (shape : Shape) (count place before whole : ℕ) → ReadFault → (left left' : Option (List ℕ)) → Type 0
 ReadFails shape count place before whole f left left' =
@@ -182,7 +140,7 @@ ReadFails shape count place before whole f left left' =
     × IfBatch f (IsSegmentFault shape place before count whole)
 
 -- fewer bytes came than the segment has
-few-read : (s : Shape) (count place before whole : ℕ) (f : ReadFault) (left left' : Option (List ℕ))
+pub few-read : (s : Shape) (count place before whole : ℕ) (f : ReadFault) (left left' : Option (List ℕ))
     → s.version ≢ 2 → 1 ≤ s.buckets → 0 < count → ReadFails s count place before whole f left left' → IsOfInput (fault_from f) → ConsumesLess (count * bytes_of s) left left'
 few-read s count place before whole read.Memory left left' one some more fails input = absurd input
 few-read s count place before whole read.Failed left left' one some more fails input = fails.1 refl
@@ -193,47 +151,7 @@ few-read s count place before whole (read.Batch b) left left' one some more fail
     let short = IfSome-map (λ rest. segment_fault s place before count whole rest ≡ Some b) (λ rest. length rest < count * size) left (λ rest found. segment-missing s place before count whole rest b one some found) fails.2 in
     few-missing (count * size) left left' (omega (arith, least, least_one)) fails.0 short
 
--- a segment that was not read
-pub segment-breaks : (shape s : Shape) (n k i count place before whole : ℕ) (line : List (List ℕ) → List ℕ → List ℕ) (follows : List (List ℕ) → Type 0) (f : ReadFault) (left left' left'' taken taken' : Option (List ℕ))
-    → shape ≡ s → s.version ≢ 2 → 1 ≤ s.buckets → Judges (bytes_of s) k line follows left left' taken taken' → k ≡ i * segment_of s → NextFits (segment_of s) n k count
-    → ReadFails shape count place before whole f left' left'' → Breaks (fault_from f) s n line left left'' taken taken'
-segment-breaks shape s n k i count place before whole line follows f left left' left'' taken taken' same one some all at next answered =
-    let fails = subst (λ (x : Shape). ReadFails x count place before whole f left' left'') same answered in
-    let fits : k ≤ n = omega (arith, next.fits) in
-    record {
-      behind = segment-behind s place before count whole f fails.3;
-      stops = Stops-before (bytes_of s) k n line follows left left' left'' taken taken' taken' all fits (ConsumesSome-few (count * bytes_of s) left' left'' fails.0) (Keeps-refl taken');
-      settles = λ input. Settles-cut s n k i count line follows left left' left'' taken taken' all at next.fits next.few (few-read s count place before whole f left' left'' one some next.some fails input);
-    }
-
--- its fault is one of the records
-pub segment-fault : (shape : Shape) (o : Opened) (k count place before whole : ℕ) (line : List (List ℕ) → List ℕ → List ℕ) (follows : List (List ℕ) → Type 0) (f : ReadFault) (left left' left'' taken taken' : Option (List ℕ))
-    → shape ≡ o.shape → o.shape.version ≢ 2 → 1 ≤ o.shape.buckets → Judges (bytes_of o.shape) k line follows left left' taken taken' → k + count ≤ o.header.reports
-    → place ≡ k → before ≡ records_start o + k * bytes_of o.shape → whole ≡ records_start o + o.header.reports * bytes_of o.shape
-    → ReadFails shape count place before whole f left' left'' → IfFile (fault_from f) (λ g. IfSome left (λ rest. IsRecordsFault o rest g))
-segment-fault shape o k count place before whole line follows read.Memory left left' left'' taken taken' same one some all fits p b w answered = tt
-segment-fault shape o k count place before whole line follows read.Failed left left' left'' taken taken' same one some all fits p b w answered = tt
-segment-fault shape o k count place before whole line follows (read.Batch fault) left left' left'' taken taken' same one some all fits p b w answered =
-    let fails = subst (λ (x : Shape). ReadFails x count place before whole (read.Batch fault) left' left'') same answered in
-    records-refused o k count line follows left left' taken taken' place before whole fault one some all fits p b w fails.2
-
--- the end of the input, where it is not there
-end-behind : {T : Type 0} (r : Result T ReadFault) (f : ReadFault) (P : Type 0) → r ≡ Err f → (r ≡ Err read.Failed) ⊎ ((r ≡ Err (read.Batch Trailing)) × P) → IsOfFront (fault_from f) → ⊥
-end-behind r f P at (inl failed) front =
-    let same : f ≡ read.Failed = cc in
-    subst (λ (g : ReadFault). IsOfFront (fault_from g)) same front
-end-behind r f P at (inr trailing) front =
-    let first = trailing.0 in
-    let same : f ≡ read.Batch Trailing = cc in
-    subst (λ (g : ReadFault). IsOfFront (fault_from g)) same front
-
-pub end-breaks : {T : Type 0} (s : Shape) (n : ℕ) (line : List (List ℕ) → List ℕ → List ℕ) (follows : List (List ℕ) → Type 0) (left left' left'' taken taken' : Option (List ℕ)) (r : Result T ReadFault) (f : ReadFault) (P : Type 0)
-    → Judges (bytes_of s) n line follows left left' taken taken' → ConsumesAtMost 1 left' left'' → r ≡ Err f → (r ≡ Err read.Failed) ⊎ ((r ≡ Err (read.Batch Trailing)) × P) → Breaks (fault_from f) s n line left left'' taken taken'
-end-breaks s n line follows left left' left'' taken taken' r f P all some at is = record {
-  behind = end-behind r f P at is;
-  stops = Stops-before (bytes_of s) n n line follows left left' left'' taken taken' taken' all (omega arith) (ConsumesSome-few 1 left' left'' some) (Keeps-refl taken');
-  settles = λ input. Settles-all s n 1 line follows left left' left'' taken taken' all some;
-}
+-- ---- lines
 
 -- an end among the lines of a segment, which is no fault of the input
 pub write-breaks : (s : Shape) (n k count : ℕ) (line : List (List ℕ) → List ℕ → List ℕ) (follows : List (List ℕ) → Type 0) (left left' left'' taken taken' taken'' : Option (List ℕ)) (bytes : List ℕ) (more : List (List ℕ)) (fault : EngineFault)

@@ -8,6 +8,8 @@ pub mod PassLemmas
 pub mod WalkLemmas
 -- which lines stand written where the input has a fault
 pub mod CutLemmas
+-- how the reading fails, and what is said of a walk then
+pub mod AmongLemmas
 -- the whole file, from what was opened
 pub mod BatchLemmas
 -- two shapes with the same numbers

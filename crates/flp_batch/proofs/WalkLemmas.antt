@@ -2,7 +2,7 @@
 use Rattle.std.proofs.Common.{◌≡◌, ◌≢◌, ◌⊎◌, inl, inr, Result, Ok, Err, ℕ, ◌+◌, ◌*◌, ◌<◌, ◌≤◌, Option, Some, List, [], ◌∷◌, ◌++◌, length, refl, sym, ap, subst, ◌∙◌, arith, append-nil, length-append}
 use Rattle.std.proofs.lemmas.List.Elements.{All-nil, All-append}
 use Rattle.std.proofs.lemmas.List.Folds.{concat-append}
-use Rattle.std.specs.Prelude.{IfSome, IfErr, OnOk, OnErr}
+use Rattle.std.specs.Prelude.{All, OnOk, OnErr}
 use Rattle.std.specs.List.{concat}
 use Rattle.std.specs.Io.KnownBytes.{Consumes, Appends, Keeps, IsAtEnd}
 use Rattle.std.proofs.KnownBytes.{Consumes-trans, Consumes-nil, Appends-trans, Appends-nil, Appends-kept}
@@ -12,24 +12,23 @@ use Rattle.flp_io.proofs.ReadLemmas.{ConsumesSome-refl}
 use Rattle.flp_io.proofs.WriteLemmas.{TakesPrefix-refl, TakesPrefix-whole, TakesPrefix-after}
 use Rattle.flp_report.specs.declared.fault.BatchFault.{BatchFault}
 use Rattle.flp_report.specs.declared.fault.BatchFault.TheVariants.{Trailing}
-use Rattle.flp_report.specs.declared.fault.ReadFault.{ReadFault}
-use Rattle.flp_report.specs.declared.fault.ReadFault.TheVariants as read
+use Rattle.flp_report.specs.declared.header.Header.{Header}
+use Rattle.flp_report.specs.declared.shape.Shape.{Shape}
 use Rattle.flp_report.specs.Pieces.{IsCut}
 use Rattle.flp_report.specs.Shape.{bytes_of}
 use Rattle.flp_report.specs.Buckets.{segment_fault}
 use Rattle.flp_report.specs.Batch.{records_fault}
 use Rattle.flp_report.proofs.BucketLemmas.{placed-one}
 use Rattle.flp_report.proofs.LawLemmas.{length-records, records_fault-segment, records_fault-trailing}
-use Rattle.flp_report.proofs.KnownLemmas.{IfSome-before}
 use Rattle.flp_report.proofs.ReadsLemmas.{ConsumesAtMost-after}
 use Rattle.flp_batch.specs.declared.fault.EngineFault.{EngineFault}
-use Rattle.flp_batch.specs.declared.fault.EngineFault.TheVariants.{Memory, Read, Write, Batch, Circuit}
+use Rattle.flp_batch.specs.declared.fault.EngineFault.TheVariants.{Memory, Write}
 use Rattle.flp_batch.specs.declared.front.Opened.{Opened}
 use Rattle.flp_batch.specs.Ends.{Ends}
-use Rattle.flp_batch.specs.Fault.{fault_from, IfFile, IsOfFront}
 use Rattle.flp_batch.specs.Lines.{Wording, lines_from, lines_of}
-use Rattle.flp_batch.specs.Opened.{records_start, IsRecordsFault}
-use Rattle.flp_batch.specs.Walk.{JudgesSome, Judges, Stops, Tells, TellsFront, StopsWalk}
+use Rattle.flp_batch.specs.Front.{records_begin}
+use Rattle.flp_batch.specs.Opened.{IsRecordsFault}
+use Rattle.flp_batch.specs.Walk.{JudgesSome, Judges, Stops, TellsOf, Tells, StopsWalk}
 use Rattle.flp_batch.proofs.LineLemmas.{lines-joined}
 
 -- before the first record
@@ -62,11 +61,6 @@ Judges-more size n count line follows follows' left left' left'' taken taken' ta
 pub Stops-none : (size n : ℕ) (line : List (List ℕ) → List ℕ → List ℕ) (left taken : Option (List ℕ)) → Stops size n line left left taken taken
 Stops-none size n line left taken =
     record { records = []; tail = []; number = omega arith; sizes = All-nil (λ r. length r ≡ size); read = Consumes-nil left; written = TakesPrefix-refl taken [] }
-
--- so many are all
-pub all-judged : (size i n : ℕ) (line : List (List ℕ) → List ℕ → List ℕ) (follows : List (List ℕ) → Type 0) (left left' taken taken' : Option (List ℕ))
-    → i ≡ n → Judges size i line follows left left' taken taken' → Judges size n line follows left left' taken taken'
-all-judged size i n line follows left left' taken taken' same all = subst (λ (k : ℕ). Judges size k line follows left left' taken taken') same all
 
 -- the end of the input takes nothing
 pub Judges-end : (size n : ℕ) (line : List (List ℕ) → List ℕ → List ℕ) (follows : List (List ℕ) → Type 0) (left left' left'' taken taken' : Option (List ℕ))
@@ -119,34 +113,18 @@ Stops-all size n line follows left left' taken taken' taken'' all kept =
     let few : n ≤ n = omega arith in
     Stops-before size n n line follows left left' left' taken taken' taken'' all few (ConsumesSome-refl left') kept
 
--- the end of the input, and what follows the lines
-pub Tells-behind : (size n : ℕ) (line : List (List ℕ) → List ℕ → List ℕ) (text : List (List ℕ) → List ℕ) (ending : List ℕ) (follows : List (List ℕ) → Type 0) (left left' taken taken' taken'' : Option (List ℕ))
+-- the end of the input, and what was written behind the lines
+TellsOf-behind : (writes : (taken taken' : Option (List ℕ)) → List ℕ → Type 0) → ((taken taken' taken'' : Option (List ℕ)) (lines ending : List ℕ) → Appends taken taken' lines → writes taken' taken'' ending → writes taken taken'' (lines ++ ending))
+    → (size n : ℕ) (line : List (List ℕ) → List ℕ → List ℕ) (text : List (List ℕ) → List ℕ) (ending : List ℕ) (follows : List (List ℕ) → Type 0) (left left' taken taken' taken'' : Option (List ℕ))
     → Judges size n line follows left left' taken taken' → IsAtEnd left' → ((records : List (List ℕ)) → follows records → lines_of line records ++ ending ≡ text records)
-    → Appends taken' taken'' ending → Tells size n text left left' taken taken''
-Tells-behind size n line text ending follows left left' taken taken' taken'' all ended same last = record {
+    → writes taken' taken'' ending → TellsOf writes size n text left left' taken taken''
+TellsOf-behind writes join size n line text ending follows left left' taken taken' taken'' all ended same last = record {
   records = all.records;
   number = all.number;
   sizes = all.sizes;
   read = all.read;
   ended = ended;
-  written =
-      subst (Appends taken taken'') (same all.records all.follows_are)
-      (Appends-trans taken taken' taken'' (lines_of line all.records) ending all.written last);
-}
-
--- a prefix of it
-pub TellsFront-behind : (size n : ℕ) (line : List (List ℕ) → List ℕ → List ℕ) (text : List (List ℕ) → List ℕ) (ending : List ℕ) (follows : List (List ℕ) → Type 0) (left left' taken taken' taken'' : Option (List ℕ))
-    → Judges size n line follows left left' taken taken' → IsAtEnd left' → ((records : List (List ℕ)) → follows records → lines_of line records ++ ending ≡ text records)
-    → TakesPrefix taken' taken'' ending → TellsFront size n text left left' taken taken''
-TellsFront-behind size n line text ending follows left left' taken taken' taken'' all ended same last = record {
-  records = all.records;
-  number = all.number;
-  sizes = all.sizes;
-  read = all.read;
-  ended = ended;
-  written =
-      subst (TakesPrefix taken taken'') (same all.records all.follows_are)
-      (TakesPrefix-after taken taken' taken'' (lines_of line all.records) ending all.written last);
+  written = subst (writes taken taken'') (same all.records all.follows_are) (join taken taken' taken'' (lines_of line all.records) ending all.written last);
 }
 
 -- what the writing of the ending answered
@@ -155,7 +133,7 @@ pub tells-ending : {T : Type 0} (size n : ℕ) (words : Wording) (ending : List 
     → (r ≢ Err Memory → (records : List (List ℕ)) → follows records → lines_of words.line records ++ ending ≡ words.text records)
     → OnOk r (Appends taken' taken'' ending) → OnOk r (Tells size n words.text left left' taken taken'')
 tells-ending size n words ending follows left left' taken taken' taken'' (Ok x) all ended same last =
-    Tells-behind size n words.line words.text ending follows left left' taken taken' taken'' all ended (same (λ is. let no : ⊥ = cc in no)) last
+    TellsOf-behind Appends Appends-trans size n words.line words.text ending follows left left' taken taken' taken'' all ended (same (λ is. let no : ⊥ = cc in no)) last
 tells-ending size n words ending follows left left' taken taken' taken'' (Err e) all ended same last = tt
 
 pub stops-ending : {T : Type 0} (size n : ℕ) (words : Wording) (ending : List ℕ) (follows : List (List ℕ) → Type 0) (Failed : Type 0) (left left' taken taken' taken'' : Option (List ℕ)) (r : Result T EngineFault)
@@ -170,7 +148,7 @@ stops-ending size n words ending follows Failed left left' taken taken' taken'' 
     let first = write.0 in
     inr (
       first,
-      TellsFront-behind size n words.line words.text ending follows left left' taken taken' taken'' all ended (same (λ is. let no : ⊥ = cc in no)) (front first),
+      TellsOf-behind TakesPrefix TakesPrefix-after size n words.line words.text ending follows left left' taken taken' taken'' all ended (same (λ is. let no : ⊥ = cc in no)) (front first),
     )
 
 -- how many bytes were read
@@ -180,65 +158,33 @@ Judges-few size n limit line follows left left' left'' taken taken' more all few
     let bytes = length-records size all.records all.sizes ∙ ap (λ (k : ℕ). k * size) all.number in
     ConsumesAtMost-after left left' left'' (concat all.records) more limit all.read few (omega (arith, bytes, fits))
 
--- the first fault of a batch of version 1 is that of the next segment, behind the records that were judged
-pub records-refused : (o : Opened) (n count : ℕ) (line : List (List ℕ) → List ℕ → List ℕ) (follows : List (List ℕ) → Type 0) (left left' taken taken' : Option (List ℕ)) (place before whole : ℕ) (fault : BatchFault)
-    → o.shape.version ≢ 2 → 1 ≤ o.shape.buckets → Judges (bytes_of o.shape) n line follows left left' taken taken' → n + count ≤ o.header.reports
-    → place ≡ n → before ≡ records_start o + n * bytes_of o.shape → whole ≡ records_start o + o.header.reports * bytes_of o.shape
-    → IfSome left' (λ rest. segment_fault o.shape place before count whole rest ≡ Some fault)
-    → IfSome left (λ rest. records_fault o.shape (records_start o) o.header.reports rest ≡ Some fault)
-records-refused o n count line follows left left' taken taken' place before whole fault one some all below p b w is =
-    let records = all.records in
-    let size = bytes_of o.shape in
-    let start = records_start o in
-    let bytes : length (concat records) ≡ n * size = length-records size records all.sizes ∙ ap (λ (k : ℕ). k * size) all.number in
-    let number : place ≡ length records = p ∙ sym all.number in
-    let behind : before ≡ start + length (concat records) = b ∙ ap (λ (k : ℕ). start + k) (sym bytes) in
-    let few : length records + count ≤ o.header.reports = omega (arith, all.number, below) in
-    IfSome-before (λ rest. records_fault o.shape start o.header.reports rest ≡ Some fault) (λ rest. segment_fault o.shape place before count whole rest ≡ Some fault) left left' (concat records) all.read is (λ rest found.
-    let same : segment_fault o.shape place before count whole rest ≡ segment_fault o.shape (length records) (start + length (concat records)) count (start + o.header.reports * size) rest =
-    λ i. segment_fault o.shape (number i) (behind i) count (w i) rest in
-    records_fault-segment o.shape start o.header.reports count records rest fault all.sizes (placed-one o.shape records one some) few (sym same ∙ found))
+-- the first fault of a batch of version 1 is that of the next segment, behind the records in front of it
+pub records-refused : (header : Header) (shape : Shape) (done count place begins whole : ℕ) (before : List (List ℕ)) (rest : List ℕ) (fault : BatchFault)
+    → shape.version ≢ 2 → 1 ≤ shape.buckets → done + count ≤ header.reports
+    → place ≡ done → begins ≡ records_begin header + done * bytes_of shape → whole ≡ records_begin header + header.reports * bytes_of shape
+    → length before ≡ done → All (λ r. length r ≡ bytes_of shape) before → segment_fault shape place begins count whole rest ≡ Some fault
+    → records_fault shape (records_begin header) header.reports (concat before ++ rest) ≡ Some fault
+records-refused header shape done count place begins whole before rest fault one some fits p b w number sizes is =
+    let size = bytes_of shape in
+    let start = records_begin header in
+    let bytes : length (concat before) ≡ done * size = length-records size before sizes ∙ ap (λ (k : ℕ). k * size) number in
+    let at : place ≡ length before = p ∙ sym number in
+    let from : begins ≡ start + length (concat before) = b ∙ ap (λ (k : ℕ). start + k) (sym bytes) in
+    let few : length before + count ≤ header.reports = omega (arith, number, fits) in
+    let same : segment_fault shape place begins count whole rest ≡ segment_fault shape (length before) (start + length (concat before)) count (start + header.reports * size) rest =
+    λ i. segment_fault shape (at i) (from i) count (w i) rest in
+    records_fault-segment shape start header.reports count before rest fault sizes (placed-one shape before one some) few (sym same ∙ is)
 
 -- a list that is not empty
 length-some : (xs : List ℕ) → xs ≢ [] → 0 < length xs
 length-some [] some = absurd (some refl)
 length-some (x ∷ xs) some = omega arith
 
--- the first fault of such records with a byte behind them
-pub records-trailing : (o : Opened) (line : List (List ℕ) → List ℕ → List ℕ) (follows : List (List ℕ) → Type 0) (left left' taken taken' : Option (List ℕ)) (fault : BatchFault)
-    → o.shape.version ≢ 2 → 1 ≤ o.shape.buckets → Judges (bytes_of o.shape) o.header.reports line follows left left' taken taken'
-    → (fault ≡ Trailing) × IfSome left' (λ rest. rest ≢ []) → IfSome left (λ rest. records_fault o.shape (records_start o) o.header.reports rest ≡ Some fault)
-records-trailing o line follows left left' taken taken' fault one some all more =
-    let records = all.records in
-    let start = records_start o in
-    IfSome-before (λ rest. records_fault o.shape start o.header.reports rest ≡ Some fault) (λ rest. rest ≢ []) left left' (concat records) all.read more.1 (λ rest left_over.
-    records_fault-trailing o.shape start o.header.reports records rest all.sizes (placed-one o.shape records one some) all.number (length-some rest left_over) ∙ ap (λ (b : BatchFault). Some b) (sym more.0))
-
--- what is said of a walk's fault, from what is said of each kind
-pub records-fault : {T : Type 0} (o : Opened) (left : Option (List ℕ)) (result : Result T EngineFault)
-    → ((fault : BatchFault) → result ≡ Err (Batch fault) → IfSome left (λ rest. records_fault o.shape (records_start o) o.header.reports rest ≡ Some fault))
-    → IfErr result (λ fault. IsOfFront fault → ⊥)
-    → IfErr result (λ fault. IfFile fault (λ f. IfSome left (λ rest. IsRecordsFault o rest f)))
-records-fault o left (Ok done) refused none = tt
-records-fault o left (Err Memory) refused none = tt
-records-fault o left (Err Read) refused none = tt
-records-fault o left (Err Write) refused none = tt
-records-fault o left (Err (Batch fault)) refused none = refused fault refl
-records-fault o left (Err (Circuit fault)) refused none = absurd (none tt)
-
--- the end of the input, where it is not there
-pub end-fault : {E : Type 0} (o : Opened) (line : List (List ℕ) → List ℕ → List ℕ) (follows : List (List ℕ) → Type 0) (left left' taken taken' : Option (List ℕ)) (r : Result E ReadFault) (f : ReadFault)
-    → o.shape.version ≢ 2 → 1 ≤ o.shape.buckets → r ≡ Err f → Judges (bytes_of o.shape) o.header.reports line follows left left' taken taken'
-    → (r ≡ Err read.Failed) ⊎ ((r ≡ Err (read.Batch Trailing)) × IfSome left' (λ rest. rest ≢ []))
-    → IfFile (fault_from f) (λ f. IfSome left (λ rest. IsRecordsFault o rest f))
-end-fault o line follows left left' taken taken' r read.Memory one some at all (inl is) = tt
-end-fault o line follows left left' taken taken' r read.Memory one some at all (inr is) = tt
-end-fault o line follows left left' taken taken' r read.Failed one some at all (inl is) = tt
-end-fault o line follows left left' taken taken' r read.Failed one some at all (inr is) = tt
-end-fault o line follows left left' taken taken' r (read.Batch b) one some at all (inl is) = let no : ⊥ = cc in absurd no
-end-fault o line follows left left' taken taken' r (read.Batch b) one some at all (inr is) =
-    let last : b ≡ Trailing = cc in
-    records-trailing o line follows left left' taken taken' b one some all (last, is.1)
+-- the first fault of all records with a byte behind them
+pub records-trailing : (header : Header) (shape : Shape) (before : List (List ℕ)) (rest : List ℕ) → shape.version ≢ 2 → 1 ≤ shape.buckets
+    → length before ≡ header.reports → All (λ r. length r ≡ bytes_of shape) before → rest ≢ [] → records_fault shape (records_begin header) header.reports (concat before ++ rest) ≡ Some Trailing
+records-trailing header shape before rest one some number sizes more =
+    records_fault-trailing shape (records_begin header) header.reports before rest sizes (placed-one shape before one some) number (length-some rest more)
 
 -- want of memory, before anything was done
 pub Ends-memory : {T : Type 0} (o : Opened) (limit : ℕ) (left : Option (List ℕ)) (reads writes : ℕ) (result : Result T EngineFault)

@@ -17,6 +17,8 @@ pub mod Lines
 pub mod Cut
 -- where a reader stands behind the head
 pub mod Front
+-- where it stands among the records, and how reading these fails
+pub mod Among
 -- what opening a batch gave
 pub mod Opened
 -- one segment of records after the other

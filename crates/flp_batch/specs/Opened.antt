@@ -1,16 +1,16 @@
 -- What opening a batch gave, and where the reader stands then.
-use Rattle.std.specs.Prelude.{ℕ, ◌≡◌, ◌+◌, ◌*◌, List, Option, Some}
+use Rattle.std.specs.Prelude.{ℕ, ◌≡◌, ◌*◌, List, Option}
 use Rattle.std.specs.Io.KnownBytes.{Consumes}
 use Rattle.flp_report.specs.Reader.{BatchReader}
-use Rattle.flp_report.specs.Batch.{IsFront, IsInLimits, claims_of, records_fault}
+use Rattle.flp_report.specs.Batch.{IsFront, IsInLimits, claims_of}
 use Rattle.flp_report.specs.Nonces.{nonces_in}
 use Rattle.flp_report.specs.Shape.{bytes_of}
 use Rattle.flp_load.specs.Loaded.{IsLoaded}
 use Rattle.flp_batch.specs.declared.fault.EngineFault.{EngineFault}
-use Rattle.flp_batch.specs.declared.fault.EngineFault.TheVariants.{Memory, Read, Write, Batch, Circuit}
 use Rattle.flp_batch.specs.declared.front.Opened.{Opened}
 use Rattle.flp_batch.specs.Format.{newest_read}
-use Rattle.flp_batch.specs.Front.{claims_start, IsAtRecords}
+use Rattle.flp_batch.specs.Among.{IsFaultAmong}
+use Rattle.flp_batch.specs.Front.{records_begin, IsAtRecords}
 use Rattle.flp_batch.specs.Setting.{Setting, IsShapeBehind}
 
 -- what the records behind are judged by
@@ -39,15 +39,11 @@ IsReady reader o = IsAtRecords reader o.header o.shape
 
 -- where they begin, and how many bytes they have
 abbrev pub records_start : Opened → ℕ
-records_start o = claims_start o.header + 16 * o.header.claims
+records_start o = records_begin o.header
 
 abbrev pub records_size : Opened → ℕ
 records_size o = o.header.reports * bytes_of o.shape
 
 -- the first fault of these bytes, which follow what was opened
 abbrev pub IsRecordsFault : Opened → List ℕ → EngineFault → Type 0
-IsRecordsFault o rest (Batch fault) = records_fault o.shape (records_start o) o.header.reports rest ≡ Some fault
-IsRecordsFault o rest (Circuit fault) = ⊥
-IsRecordsFault o rest Memory = ⊥
-IsRecordsFault o rest Read = ⊥
-IsRecordsFault o rest Write = ⊥
+IsRecordsFault o = IsFaultAmong o.header o.shape

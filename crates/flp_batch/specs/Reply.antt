@@ -15,25 +15,23 @@ use Rattle.flp_batch.specs.Setting.{Setting}
 abbrev pub text_on : Option ℕ → (Setting → List (List ℕ) → List ℕ) → List ℕ → Setting → List ℕ
 text_on party text bytes setting = text setting (whole_records newest_read party setting.shape bytes)
 
--- the input was read to its end and is a batch, and the output grew by exactly its text
-pub record WritesText (party : Option ℕ) (text : Setting → List (List ℕ) → List ℕ) (left left' taken taken' : Option (List ℕ)) : Type 0 where
+-- the input was read to its end and is a batch, and this was written of its text
+pub record WritesOf (writes : (taken taken' : Option (List ℕ)) → List ℕ → Type 0) (party : Option ℕ) (text : Setting → List (List ℕ) → List ℕ) (left left' taken taken' : Option (List ℕ)) : Type 0 where
   pub bytes : List ℕ
   pub params : Option Params
   pub setting : Setting
   pub read : Consumes left left' bytes
   pub ended : IsAtEnd left'
   pub is_batch : IsBatch party bytes params setting
-  pub written : Appends taken taken' (text_on party text bytes setting)
+  pub written : writes taken taken' (text_on party text bytes setting)
 
--- the input was read to its end and is a batch, and the output grew by a prefix of its text
-pub record StopsInText (party : Option ℕ) (text : Setting → List (List ℕ) → List ℕ) (left left' taken taken' : Option (List ℕ)) : Type 0 where
-  pub bytes : List ℕ
-  pub params : Option Params
-  pub setting : Setting
-  pub read : Consumes left left' bytes
-  pub ended : IsAtEnd left'
-  pub is_batch : IsBatch party bytes params setting
-  pub written : TakesPrefix taken taken' (text_on party text bytes setting)
+-- the output grew by exactly its text
+abbrev pub WritesText : (party : Option ℕ) (text : Setting → List (List ℕ) → List ℕ) (left left' taken taken' : Option (List ℕ)) → Type 0
+WritesText = WritesOf Appends
+
+-- it grew by a prefix of its text
+abbrev pub StopsInText : (party : Option ℕ) (text : Setting → List (List ℕ) → List ℕ) (left left' taken taken' : Option (List ℕ)) → Type 0
+StopsInText = WritesOf TakesPrefix
 
 -- bytes begin with a head without a fault and a circuit's text, and the output grew by a prefix of the
 -- lines of their whole records

@@ -65,23 +65,22 @@ pub record Breaks (fault : EngineFault) (shape : Shape) (n : ℕ) (line : List (
 
 -- ---- up to the end of the input
 
--- n records were read, and then the end of the input, and their text was written
-pub record Tells (size n : ℕ) (text : List (List ℕ) → List ℕ) (left left' taken taken' : Option (List ℕ)) : Type 0 where
+-- n records were read, and then the end of the input, and this was written of their text
+pub record TellsOf (writes : (taken taken' : Option (List ℕ)) → List ℕ → Type 0) (size n : ℕ) (text : List (List ℕ) → List ℕ) (left left' taken taken' : Option (List ℕ)) : Type 0 where
   pub records : List (List ℕ)
   pub number : length records ≡ n
   pub sizes : All (λ r. length r ≡ size) records
   pub read : Consumes left left' (concat records)
   pub ended : IsAtEnd left'
-  pub written : Appends taken taken' (text records)
+  pub written : writes taken taken' (text records)
 
--- the same, but a prefix of the text was written
-pub record TellsFront (size n : ℕ) (text : List (List ℕ) → List ℕ) (left left' taken taken' : Option (List ℕ)) : Type 0 where
-  pub records : List (List ℕ)
-  pub number : length records ≡ n
-  pub sizes : All (λ r. length r ≡ size) records
-  pub read : Consumes left left' (concat records)
-  pub ended : IsAtEnd left'
-  pub written : TakesPrefix taken taken' (text records)
+-- the whole of it
+abbrev pub Tells : (size n : ℕ) (text : List (List ℕ) → List ℕ) (left left' taken taken' : Option (List ℕ)) → Type 0
+Tells = TellsOf Appends
+
+-- a prefix of it
+abbrev pub TellsFront : (size n : ℕ) (text : List (List ℕ) → List ℕ) (left left' taken taken' : Option (List ℕ)) → Type 0
+TellsFront = TellsOf TakesPrefix
 
 -- where a walk failed, a prefix of the lines was written, or, after a failed write behind them, of the text
 abbrev pub StopsWalk : {T : Type 0} → Result T EngineFault → (size n : ℕ) → Wording → (left left' taken taken' : Option (List ℕ)) → Type 0

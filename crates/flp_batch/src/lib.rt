@@ -12,12 +12,14 @@
 //! |---|---|
 //! | run a command over a batch | [`perform`], with a [`Task`] |
 //! | answer the records behind what was [`Opened`] | [`walk`], with a [`Judge`] that makes a line of each |
+//! | read segment by segment what is judged otherwise | [`read_segment`], and [`read_end`] behind the last |
 //! | know that no file has two answers | [`laws`] |
 //!
 //! Memory is taken for the text and its circuit, for the old claims, for one segment and one line, for a block
 //! of lines, and for what a judge keeps.
 #![tactic(auto)]
 
+mod among;
 mod command;
 mod fault;
 mod front;
@@ -25,6 +27,7 @@ mod judge;
 pub mod laws;
 mod records;
 
+pub use among::{read_end, read_segment};
 pub use command::perform;
 pub use fault::EngineFault;
 pub use front::{Opened, open};

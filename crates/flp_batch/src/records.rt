@@ -13,6 +13,7 @@ ghost use Rattle.flp_batch.specs.Lines.{Wording, lines_from, lines_of};
 ghost use Rattle.flp_batch.specs.Opened.{IsReady, IsRecordsFault, records_size};
 ghost use Rattle.flp_batch.specs.Walk.{IsNew, JudgesSome, Judges, Settles, Breaks, Tells, StopsWalk};
 
+use crate::among::{read_end, read_segment};
 use crate::fault::EngineFault;
 use crate::front::Opened;
 use crate::judge::Judge;
@@ -108,24 +109,20 @@ fn judge_records<S: Source, K: Sink, J: Judge>(
         (S.faults (source_of reader.old)) (S.faults (source_of reader.new)) (K.faults output.old) (K.faults output.new) result }
 {
     let reports = opened.header.reports;
-    let most = opened.shape.segment();
-    let mut room = Segment::new(alloc, &opened.shape, most.min(reports))?;
+    let mut room = Segment::new(alloc, &opened.shape, opened.shape.segment().min(reports))?;
     let mut block = Block::new(alloc)?;
     let mut judged = 0;
     while judged < reports {
-        let count = most.min(reports - judged);
-        if let Err(fault) = reader.segment(count, &mut room) {
-            return Err(EngineFault::from(fault));
-        }
+        let count = match read_segment(reader, &opened.header, &opened.shape, judged, &mut room) {
+            Ok(count) => count,
+            Err(fault) => return Err(fault),
+        };
         if let Err(fault) = judge_segment(&room, count, judge, line, &mut block, output) {
             return Err(fault);
         }
         judged += count;
     }
-    match reader.end() {
-        Ok(()) => Ok(()),
-        Err(fault) => Err(EngineFault::from(fault)),
-    }
+    read_end(reader)
 }
 
 /// Writes what follows the lines of the records that were judged.

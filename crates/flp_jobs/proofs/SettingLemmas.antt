@@ -1,5 +1,5 @@
 -- What a loaded text says of the jobs behind it.
-use Rattle.std.proofs.Common.{◌≡◌, ℕ, ◌≤◌, List, length, Option, Some, None, arith}
+use Rattle.std.proofs.Common.{◌≡◌, ℕ, ◌≤◌, Bool, List, length, Option, Some, None, refl, arith}
 use Rattle.flp_syntax.specs.declared.syntax.Params.{Params}
 use Rattle.flp_syntax.specs.declared.syntax.Params.TheVariants.{Count, Sum, SumVec, Histogram, Multihot}
 use Rattle.flp_syntax.specs.Tree.{Program}
@@ -42,6 +42,12 @@ pub circuit-of : (text : List ℕ) (params : Option Params) (circuit : Program) 
 circuit-of text params circuit loaded = circuit-read text params circuit loaded.read
 
 -- the setting of jobs behind a head
-pub IsSetting-from : (header : JobHeader) (by : JobSetting) → IsCircuitOf by.params by.circuit → IsJobShapeBehind header by.params by.circuit by.shape → 2 ≤ header.shares → IsSetting by
-IsSetting-from header by circuit fits some =
-    record { header = header; circuit = circuit; some_shares = omega (arith, fits.of_record.shares); shape = fits }
+pub IsSetting-from : (writes : Bool) (header : JobHeader) (by : JobSetting) → IsCircuitOf by.params by.circuit → IsJobShapeBehind writes header by.params by.circuit by.shape
+    → 2 ≤ header.shares → IsSetting by
+IsSetting-from writes header by circuit fits some =
+    record {
+      header = header;
+      circuit = circuit;
+      some_shares = omega (arith, fits.of_record.shares);
+      shape = record { of_record = fits.of_record; input = fits.input; prove = fits.prove; checked = fits.checked; written = refl };
+    }

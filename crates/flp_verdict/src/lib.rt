@@ -9,14 +9,17 @@
 //! |---|---|
 //! | judge records in their order | [`Judging`]: `judge`, and then `row` or `verifier` of the record that was judged last |
 //! | make lines | [`push_line`], [`push_ending`]; [`push_nonce`] and [`push_number`] for lines of another kind |
+//! | put pieces of lines through a block, without taking memory | [`put_nonce`], [`put_number`], [`put_spaced_number`], [`put_spaced`] |
 //! | know what the verdicts and the aggregate promise | [`laws`] |
 #![tactic(auto)]
 
 mod judging;
 pub mod laws;
+mod puts;
 mod text;
 
 pub use judging::Judging;
+pub use puts::{put_nonce, put_number, put_spaced, put_spaced_number};
 pub use text::{push_ending, push_line, push_nonce, push_number};
 
 /// Want of memory, as std's allocators answer it.

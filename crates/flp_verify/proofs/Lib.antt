@@ -19,5 +19,3 @@ pub mod SettledLemmas
 -- from all records to the whole batch
 pub mod WholeLemmas
 mod ReleasedLemmas
--- what follows of a result
-pub mod ResultLemmas

@@ -12,6 +12,7 @@ use Rattle.flp_batch.specs.declared.fault.EngineFault.TheVariants.{Memory, Read,
 use Rattle.flp_batch.specs.Ends.{Ends}
 use Rattle.flp_batch.specs.Fault.{IfFile, IsOfFront, IsOfInput}
 use Rattle.flp_batch.specs.Reply.{text_on, StopsEarly, StopsInText}
+use Rattle.flp_batch.proofs.BatchLemmas.{WritesOf-then}
 use Rattle.flp_verdict.specs.Release.{Answers, released_of}
 use Rattle.flp_verify.specs.declared.counted.Counted.{Counted}
 use Rattle.flp_verify.specs.declared.counted.End.{End}
@@ -27,46 +28,38 @@ IsOfEnding fault = (fault ≡ Memory) ⊎ (fault ≡ Write)
 
 module _ (law : EndingIsReleased) (least : ℕ) (would asked : Answers) (claims : Bool) (counted : Counted) (left left' taken taken' taken'' : Option (List ℕ)) (c : Counts least would asked counted left left' taken taken') where
   abbrev lines : List ℕ
-  lines = text_on None verdict_lines c.bytes c.setting
+  lines = text_on None verdict_lines c.whole.bytes c.whole.setting
 
   abbrev ending : List ℕ
-  ending = released_of c.setting.circuit c.setting.shape least would claims c.setting.claims (records_on c.bytes c.setting)
+  ending = released_of c.whole.setting.circuit c.whole.setting.shape least would claims c.whole.setting.claims (records_on c.whole.bytes c.whole.setting)
 
   is-ending : AreSums counted.seat.view.added (totals_in counted) → ending_of counted claims ≡ ending
-  is-ending sums = law c.setting least would (records_on c.bytes c.setting) counted claims c.counted_is sums
+  is-ending sums = law c.whole.setting least would (records_on c.whole.bytes c.whole.setting) counted claims c.counted_is sums
 
   whole : AreSums counted.seat.view.added (totals_in counted) → Appends taken' taken'' (ending_of counted claims) → Releases least would claims counted.end left left' taken taken''
   whole sums last = record {
-    bytes = c.bytes;
-    params = c.params;
-    setting = c.setting;
-    read = c.read;
-    ended = c.ended;
-    is_batch = c.is_batch;
+    bytes = c.whole.bytes;
+    params = c.whole.params;
+    setting = c.whole.setting;
+    read = c.whole.read;
+    ended = c.whole.ended;
+    is_batch = c.whole.is_batch;
     end_is = c.counted_is.end;
-    written = Appends-trans taken taken' taken'' lines ending c.written (subst (Appends taken' taken'') (is-ending sums) last);
+    written = Appends-trans taken taken' taken'' lines ending c.whole.written (subst (Appends taken' taken'') (is-ending sums) last);
   }
 
   front : AreSums counted.seat.view.added (totals_in counted) → TakesPrefix taken' taken'' (ending_of counted claims) → StopsInText None (released_by least would claims) left left' taken taken''
-  front sums last = record {
-    bytes = c.bytes;
-    params = c.params;
-    setting = c.setting;
-    read = c.read;
-    ended = c.ended;
-    is_batch = c.is_batch;
-    written = TakesPrefix-after taken taken' taken'' lines ending c.written (subst (TakesPrefix taken' taken'') (is-ending sums) last);
-  }
+  front sums last = WritesOf-then TakesPrefix verdict_lines (released_by least would claims) c.whole (TakesPrefix-after taken taken' taken'' lines ending c.whole.written (subst (TakesPrefix taken' taken'') (is-ending sums) last))
 
   early : Keeps taken' taken'' → StopsEarly None verdict_lines left left' taken taken''
   early kept = record {
-    bytes = c.bytes;
-    read = c.read;
+    bytes = c.whole.bytes;
+    read = c.whole.read;
     written = inr (record {
-      params = c.params;
-      setting = c.setting;
-      begins = c.is_batch.has;
-      written = TakesPrefix-whole taken taken'' lines (Appends-kept taken taken' taken'' lines c.written kept);
+      params = c.whole.params;
+      setting = c.whole.setting;
+      begins = c.whole.is_batch.has;
+      written = TakesPrefix-whole taken taken'' lines (Appends-kept taken taken' taken'' lines c.whole.written kept);
     });
   }
 

@@ -1,6 +1,6 @@
 -- From what is kept behind all records to what is known of the whole batch.
-use Rattle.std.proofs.Common.{◌≡◌, ℕ, List, ◌∷◌, ◌++◌, length, not, Option, None, Result, Ok, Err, refl, sym, ap, subst, ◌∙◌, arith}
-use Rattle.std.specs.Prelude.{position}
+use Rattle.std.proofs.Common.{◌≡◌, ◌≢◌, ℕ, List, ◌∷◌, ◌++◌, length, not, Option, None, Result, Ok, Err, refl, sym, ap, subst, ◌∙◌, arith}
+use Rattle.std.specs.Prelude.{position, IfSome, IfErr}
 use Rattle.std.specs.List.{concat}
 use Rattle.std.specs.Io.KnownBytes.{Appends, Keeps, IsAtEnd}
 use Rattle.std.proofs.KnownBytes.{Keeps-refl, Consumes-trans}
@@ -13,15 +13,16 @@ use Rattle.flp_policy.specs.Counts.{no_more}
 use Rattle.flp_tally.specs.declared.view.View.{View}
 use Rattle.flp_pool.specs.Range.{TakesRange}
 use Rattle.flp_batch.specs.declared.fault.EngineFault.{EngineFault}
-use Rattle.flp_batch.specs.declared.fault.EngineFault.TheVariants.{Memory, Read, Write, Batch, Circuit}
+use Rattle.flp_batch.specs.declared.fault.EngineFault.TheVariants.{Memory, Read, Write}
 use Rattle.flp_batch.specs.declared.front.Opened.{Opened}
 use Rattle.flp_batch.specs.Ends.{Ends}
+use Rattle.flp_batch.specs.Fault.{IfFile}
 use Rattle.flp_batch.specs.Lines.{Wording, lines_of}
-use Rattle.flp_batch.specs.Opened.{setting_of, Opens, IsRecordsFault}
+use Rattle.flp_batch.specs.Opened.{setting_of, Opens}
 use Rattle.flp_batch.specs.Reply.{StopsEarly, SettlesEarly}
 use Rattle.flp_batch.specs.Setting.{Setting}
 use Rattle.flp_batch.specs.Walk.{Judges, Stops, Settles, Breaks}
-use Rattle.flp_batch.proofs.BatchLemmas.{whole-behind, StopsEarly-behind, SettlesEarly-behind}
+use Rattle.flp_batch.proofs.BatchLemmas.{whole-behind, WritesOf-behind, StopsEarly-behind, SettlesEarly-behind}
 use Rattle.flp_batch.proofs.WalkLemmas.{Stops-all}
 use Rattle.flp_verdict.specs.Release.{Answers}
 use Rattle.flp_verify.specs.declared.counted.Counted.{Counted}
@@ -67,12 +68,14 @@ CountsRecords-made front claims least start now counted left left' taken taken' 
     let records = all.records in
     let same : setting_with front start.known ≡ setting_of (opened_with front claims) = ap (setting_with front) known in
     record {
-      records = records;
-      number = all.number;
-      sizes = all.sizes;
-      read = all.read;
-      ended = ended;
-      written = subst (λ (by : Setting). Appends taken taken' (verdict_lines by records)) same (subst (Appends taken taken') (lines-judged (setting_with front start.known) records) all.written);
+      all = record {
+        records = records;
+        number = all.number;
+        sizes = all.sizes;
+        read = all.read;
+        ended = ended;
+        written = subst (λ (by : Setting). Appends taken taken' (verdict_lines by records)) same (subst (Appends taken taken') (lines-judged (setting_with front start.known) records) all.written);
+      };
       counted_is = subst (λ (by : Setting). IsCounted by least start.answers records counted) same (is records all.follows_are);
       told = subst (λ (by : Setting). AreTold 0 (verdicts_by by records) start.answers now.answers) same all.follows_are.answers;
     }
@@ -81,19 +84,13 @@ CountsRecords-made front claims least start now counted left left' taken taken' 
 
 pub Counts-behind : (o : Opened) (least : ℕ) (would asked : Answers) (counted : Counted) (first left left' taken taken' : Option (List ℕ)) → Opens None first left o
     → CountsRecords o least would asked counted left left' taken taken' → Counts least would asked counted first left' taken taken'
-Counts-behind o least would asked counted first left left' taken taken' opens all =
-    let rest = concat all.records in
+Counts-behind o least would asked counted first left left' taken taken' opens counts =
+    let all = counts.all in
     let is = whole-behind None o first left opens all.records all.number all.sizes in
     record {
-      bytes = opens.front ++ rest;
-      params = o.loaded.params;
-      setting = setting_of o;
-      read = Consumes-trans first left left' opens.front rest opens.read all.read;
-      ended = all.ended;
-      is_batch = is.is_batch;
-      written = subst (λ (rs : List (List ℕ)). Appends taken taken' (verdict_lines (setting_of o) rs)) (sym is.whole) all.written;
-      counted_is = subst (λ (rs : List (List ℕ)). IsCounted (setting_of o) least would rs counted) (sym is.whole) all.counted_is;
-      told = subst (λ (rs : List (List ℕ)). AreTold 0 (verdicts_by (setting_of o) rs) would asked) (sym is.whole) all.told;
+      whole = WritesOf-behind Appends None o verdict_lines first left left' taken taken' opens all;
+      counted_is = subst (λ (rs : List (List ℕ)). IsCounted (setting_of o) least would rs counted) (sym is.whole) counts.counted_is;
+      told = subst (λ (rs : List (List ℕ)). AreTold 0 (verdicts_by (setting_of o) rs) would asked) (sym is.whole) counts.told;
     }
 
 -- the lines of a walk, which are all that it writes
@@ -114,17 +111,6 @@ settles-early o first left left' taken taken' opens settles =
 
 -- ---- how it ended
 
--- the old claims say nothing of a fault of the records
-same-faults : (front : Front) (a b : Nonces) (rest : List ℕ) (fault : EngineFault) → IsRecordsFault (opened_with front a) rest fault ≡ IsRecordsFault (opened_with front b) rest fault
-same-faults front a b rest Memory = refl
-same-faults front a b rest Read = refl
-same-faults front a b rest Write = refl
-same-faults front a b rest (Batch fault) = refl
-same-faults front a b rest (Circuit fault) = refl
-
-pub faults-same : (front : Front) (a b : Nonces) → IsRecordsFault (opened_with front a) ≡ IsRecordsFault (opened_with front b)
-faults-same front a b = λ i rest fault. same-faults front a b rest fault i
-
 module _ (is_fault : List ℕ → EngineFault → Type 0) (takes : Option (List ℕ) → Option (List ℕ) → Type 0) (left left' : Option (List ℕ)) (reads reads' writes writes' : ℕ) {T U : Type 0} where
   -- a fault that is handed on
   pub Ends-err : (fault : EngineFault) → Ends {T = T} is_fault takes left left' reads reads' writes writes' (Err fault) → Ends {T = U} is_fault takes left left' reads reads' writes writes' (Err fault)
@@ -137,26 +123,24 @@ module _ (is_fault : List ℕ → EngineFault → Type 0) (takes : Option (List 
     later_out = e.later_out;
   }
 
-  pub Ends-ok : (x : T) (y : U) → Ends {T = T} is_fault takes left left' reads reads' writes writes' (Ok x) → Ends {T = U} is_fault takes left left' reads reads' writes writes' (Ok y)
-  Ends-ok x y e = record {
-    fault = tt;
+  -- a good end, behind which nothing is read or written
+  ends-still : (x : T) (r : Result U EngineFault) → r ≢ Err Read → r ≢ Err Write → IfErr r (λ fault. IfFile fault (λ f. IfSome left (λ bytes. is_fault bytes f)))
+      → Ends {T = T} is_fault takes left left' reads reads' writes writes' (Ok x) → Ends {T = U} is_fault takes left left' reads reads' writes writes' r
+  ends-still x r unread unwritten none e = record {
+    fault = none;
     few = e.few;
-    read = λ is. let no : ⊥ = cc in absurd no;
-    write = λ is. let no : ⊥ = cc in absurd no;
+    read = λ is. absurd (unread is);
+    write = λ is. absurd (unwritten is);
     later_in = e.later_in;
     later_out = e.later_out;
   }
 
+  pub Ends-ok : (x : T) (y : U) → Ends {T = T} is_fault takes left left' reads reads' writes writes' (Ok x) → Ends {T = U} is_fault takes left left' reads reads' writes writes' (Ok y)
+  Ends-ok x y e = ends-still x (Ok y) (λ is. let no : ⊥ = cc in no) (λ is. let no : ⊥ = cc in no) tt e
+
   -- want of memory, behind all that was read and written
   pub Ends-wanting : (x : T) → Ends {T = T} is_fault takes left left' reads reads' writes writes' (Ok x) → Ends {T = U} is_fault takes left left' reads reads' writes writes' (Err Memory)
-  Ends-wanting x e = record {
-    fault = tt;
-    few = e.few;
-    read = λ is. let no : ⊥ = cc in absurd no;
-    write = λ is. let no : ⊥ = cc in absurd no;
-    later_in = e.later_in;
-    later_out = e.later_out;
-  }
+  Ends-wanting x e = ends-still x (Err Memory) (λ is. let no : ⊥ = cc in no) (λ is. let no : ⊥ = cc in no) tt e
 
 pub Breaks-wanting : (front : Front) (line : List (List ℕ) → List ℕ → List ℕ) (follows : List (List ℕ) → Type 0) (left left' taken taken' : Option (List ℕ))
     → Judges (bytes_of front.shape) front.header.reports line follows left left' taken taken' → Breaks Memory front.shape front.header.reports line left left' taken taken'

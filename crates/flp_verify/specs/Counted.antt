@@ -3,7 +3,7 @@ use Rattle.std.specs.Prelude.{◌≡◌, ℕ, List, Bool, Option, None, Some, ma
 use Rattle.std.specs.List.{range_with_len}
 use Rattle.flp_known.specs.Known.{known_in}
 use Rattle.flp_tally.specs.declared.view.Entry.{Entry}
-use Rattle.flp_tally.specs.Rows.{total_of, AreSums}
+use Rattle.flp_tally.specs.Rows.{total_of}
 use Rattle.flp_verdict.specs.Release.{ending_by}
 use Rattle.flp_verify.specs.declared.counted.End.{End}
 use Rattle.flp_verify.specs.declared.counted.End.TheVariants.{Released, Withheld}
@@ -27,8 +27,7 @@ totals_in counted = totals_of counted.outs counted.seat.view.added
 abbrev pub ending_of : Counted → (claims : Bool) → List ℕ
 ending_of counted claims = ending_by counted.numbers.accepted (withheld_by counted.end) (totals_in counted) claims (known_in counted.known)
 
--- its numbers, and what its seat's rows come to
+-- its numbers, and the totals of what its seat added
 pub record IsSummary (counted : Counted) (summary : Summary) : Type 0 where
   pub numbers : summary.numbers ≡ counted.numbers
   pub totals : summary.totals ≡ totals_in counted
-  pub sums : AreSums counted.seat.view.added summary.totals

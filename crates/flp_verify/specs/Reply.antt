@@ -1,6 +1,5 @@
 -- What the calls of this crate answer of a whole batch, by the bytes that they read and wrote.
-use Rattle.std.specs.Prelude.{ℕ, ◌≡◌, List, All, Bool, Option, None, Result, Ok, Err, length}
-use Rattle.std.specs.List.{concat}
+use Rattle.std.specs.Prelude.{ℕ, ◌≡◌, List, Bool, Option, None, Result, Ok, Err}
 use Rattle.std.specs.Io.KnownBytes.{Consumes, Appends, IsAtEnd}
 use Rattle.flp_syntax.specs.declared.syntax.Params.{Params}
 use Rattle.flp_report.specs.Batch.{whole_records}
@@ -10,8 +9,9 @@ use Rattle.flp_batch.specs.declared.front.Opened.{Opened}
 use Rattle.flp_batch.specs.Format.{newest_read}
 use Rattle.flp_batch.specs.File.{IsBatch}
 use Rattle.flp_batch.specs.Opened.{setting_of}
-use Rattle.flp_batch.specs.Reply.{text_on}
+use Rattle.flp_batch.specs.Reply.{WritesText, text_on}
 use Rattle.flp_batch.specs.Setting.{Setting}
+use Rattle.flp_batch.specs.Walk.{Tells}
 use Rattle.flp_verdict.specs.Release.{Answers}
 use Rattle.flp_verify.specs.declared.counted.Counted.{Counted}
 use Rattle.flp_verify.specs.declared.counted.End.{End}
@@ -30,27 +30,16 @@ records_on bytes setting = whole_records newest_read None setting.shape bytes
 -- behind what was opened all records were read, and then the end of the input; their lines were written, and this is what is
 -- known of them
 pub record CountsRecords (o : Opened) (least : ℕ) (would asked : Answers) (counted : Counted) (left left' taken taken' : Option (List ℕ)) : Type 0 where
-  pub records : List (List ℕ)
-  pub number : length records ≡ o.header.reports
-  pub sizes : All (λ r. length r ≡ bytes_of o.shape) records
-  pub read : Consumes left left' (concat records)
-  pub ended : IsAtEnd left'
-  pub written : Appends taken taken' (verdict_lines (setting_of o) records)
-  pub counted_is : IsCounted (setting_of o) least would records counted
-  pub told : AreTold 0 (verdicts_by (setting_of o) records) would asked
+  pub all : Tells (bytes_of o.shape) o.header.reports (verdict_lines (setting_of o)) left left' taken taken'
+  pub counted_is : IsCounted (setting_of o) least would all.records counted
+  pub told : AreTold 0 (verdicts_by (setting_of o) all.records) would asked
 
 -- the input was read to its end and is a batch, the output grew by exactly the lines of its records, this is what is known of
 -- it, and the policies were told all verdicts
 pub record Counts (least : ℕ) (would asked : Answers) (counted : Counted) (left left' taken taken' : Option (List ℕ)) : Type 0 where
-  pub bytes : List ℕ
-  pub params : Option Params
-  pub setting : Setting
-  pub read : Consumes left left' bytes
-  pub ended : IsAtEnd left'
-  pub is_batch : IsBatch None bytes params setting
-  pub written : Appends taken taken' (text_on None verdict_lines bytes setting)
-  pub counted_is : IsCounted setting least would (records_on bytes setting) counted
-  pub told : AreTold 0 (verdicts_by setting (records_on bytes setting)) would asked
+  pub whole : WritesText None verdict_lines left left' taken taken'
+  pub counted_is : IsCounted whole.setting least would (records_on whole.bytes whole.setting) counted
+  pub told : AreTold 0 (verdicts_by whole.setting (records_on whole.bytes whole.setting)) would asked
 
 -- ---- and released
 

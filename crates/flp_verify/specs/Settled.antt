@@ -1,7 +1,9 @@
 -- What is kept of the records of a batch while they are verified segment by segment, and what one segment does to it. From
 -- what stands in front of the records up.
-use Rattle.std.specs.Prelude.{◌≡◌, ℕ, ◌+◌, ◌<◌, Bool, Option, None, Some, IfSome, List, [], ◌++◌, length, map, min, vec_len, nat_le}
+use Rattle.std.specs.Prelude.{◌≡◌, ℕ, ◌+◌, ◌<◌, ◌≤◌, Bool, All, Option, None, Some, IfSome, List, [], ◌++◌, length, map, min, vec_len, nat_le}
 use Rattle.flp_report.specs.declared.nonces.Nonces.{Nonces}
+use Rattle.flp_report.specs.declared.segment.Segment.{Segment}
+use Rattle.flp_report.specs.Buckets.{HasBucket}
 use Rattle.flp_report.specs.Record.{nonce_in}
 use Rattle.flp_report.specs.Segment as segment
 use Rattle.flp_report.specs.Shape.{segment_of}
@@ -14,6 +16,7 @@ use Rattle.flp_policy.specs.Counts.{VerdictCounts, no_more, counts_of}
 use Rattle.flp_tally.specs.declared.view.View.{View}
 use Rattle.flp_tally.specs.Views.{first_view}
 use Rattle.flp_pool.specs.Range.{LacksRange, TakesRange}
+use Rattle.flp_round.specs.declared.crew.Crew.{Crew}
 use Rattle.flp_round.specs.Crew.{workers_of, room_of, IsCrewFor}
 use Rattle.flp_round.specs.Findings.{verdicts_by, rows_by, row_from}
 use Rattle.flp_verdict.specs.Release.{Answers, known_after}
@@ -69,6 +72,17 @@ pub record IsBetween (front : Front) (first : ℕ) (within : Room) (ledger : Led
   pub board : IfSome ledger.board (IsBoardFor front)
   pub places : places_in ledger.numbers ≡ first
   pub free : LacksRange first front.header.reports (seen_by front ledger.board).claimed
+
+-- a segment of so many records stands in front of a crew, the first of them at this place of the batch, with a mark for each
+pub record IsRound (front : Front) (first count : ℕ) (read : Segment) (marks : List Bool) (crew : Crew) : Type 0 where
+  pub shape : segment.shape_in read ≡ front.shape
+  pub used : segment.used_in read ≡ count
+  pub buckets : All (HasBucket front.shape) (segment.records_in read)
+  pub fits : first + count ≤ front.header.reports
+  pub marked : count ≤ length marks
+  pub made : IsCrewFor front.loaded.plan front.shape crew
+  pub room : count ≤ room_of crew
+  pub workers : workers_of crew ≡ front.workers
 
 -- ---- what is kept
 

@@ -10,11 +10,10 @@ ghost use Rattle.flp_verdict.specs.Release.{ending_by};
 ghost use Rattle.flp_verify.specs.Counted.{withheld_by, totals_of, totals_in, ending_of, IsSummary};
 
 use crate::EngineFault;
-use crate::counted::{Counted, End, Summary};
-use crate::ending::put_ending;
+use crate::counted::{Counted, Summary};
+use crate::ending::{Ending, put_ending};
 use flp_field::Fe;
 use flp_io::{Block, Failed, Sink};
-use flp_known::Known;
 use flp_list::List;
 use flp_tally::{Seat, Tally};
 use std::alloc::Global;
@@ -51,15 +50,14 @@ pub fn finish<K: Sink>(
         seat,
     } = counted;
     close_into(tally, seat, &mut totals);
-    match write_ending(
-        &mut block,
-        output,
-        numbers.accepted,
+    let ending = Ending {
+        accepted: numbers.accepted,
         end,
-        totals.as_slice(),
+        aggregate: totals.as_slice(),
         claims,
-        &known,
-    ) {
+        known: &known,
+    };
+    match write_ending(&mut block, output, &ending) {
         Ok(()) => {}
         Err(_) => return Err(EngineFault::Write),
     }
@@ -84,18 +82,16 @@ fn close_into(tally: Tally, seat: Seat, totals: &mut Vec<Fe>)
 fn write_ending<K: Sink>(
     block: &mut Block,
     sink: &mut K,
-    accepted: u32,
-    end: End,
-    aggregate: &[Fe],
-    claims: bool,
-    known: &Known,
+    ending: &Ending<'_>,
 ) -> Result<(), Failed>
     requires ready { K.ready sink.old }
     requires empty { block.old ≡ [] }
-    ensures whole { OnOk result (Appends (K.taken sink.old) (K.taken sink.new) (ending_by accepted (withheld_by end) aggregate.now claims (known_in known.now))) }
-    ensures front { TakesPrefix (K.taken sink.old) (K.taken sink.new) (ending_by accepted (withheld_by end) aggregate.now claims (known_in known.now)) }
+    ensures whole { OnOk result (Appends (K.taken sink.old) (K.taken sink.new)
+        (ending_by ending.now.accepted (withheld_by ending.now.end) ending.now.aggregate.now ending.now.claims (known_in ending.now.known.now))) }
+    ensures front { TakesPrefix (K.taken sink.old) (K.taken sink.new)
+        (ending_by ending.now.accepted (withheld_by ending.now.end) ending.now.aggregate.now ending.now.claims (known_in ending.now.known.now)) }
     ensures uses { Uses K.faults K.ready sink.old sink.new (IsErr result) (IsOk result) }
 {
-    put_ending(block, sink, accepted, end, aggregate, claims, known)?;
+    put_ending(block, sink, ending)?;
     block.flush(sink)
 }

@@ -10,6 +10,18 @@ use crate::counted::End;
 use flp_field::Fe;
 use flp_io::{Block, Failed, Sink};
 use flp_known::{Known, put_line, put_piece};
+use flp_verdict::put_spaced;
+
+/// What follows the lines of the records of a batch: how many are accepted, how its release ended, the sums of the outs of these,
+/// and whether what is known is told as claims.
+#[derive(Clone, Copy)]
+pub(crate) struct Ending<'a> {
+    pub accepted: u32,
+    pub end: End,
+    pub aggregate: &'a [Fe],
+    pub claims: bool,
+    pub known: &'a Known,
+}
 
 /// Puts a line that says a number.
 fn put_number_line<K: Sink>(
@@ -23,43 +35,6 @@ fn put_number_line<K: Sink>(
 {
     let mut digits = itoa::Buffer::new();
     put_line(block, sink, name, digits.format(number).as_bytes())
-}
-
-/// Puts a number in decimal digits.
-pub(crate) fn put_number<K: Sink>(
-    block: &mut Block,
-    sink: &mut K,
-    number: u64,
-) -> Result<(), Failed>
-    requires { K.ready sink.old }
-    ensures { Puts K.taken K.faults K.ready sink.old sink.new block.old block.new (decimal number) result }
-{
-    let mut digits = itoa::Buffer::new();
-    put_piece(block, sink, digits.format(number).as_bytes())
-}
-
-/// Puts a number with a space before it.
-pub(crate) fn put_spaced_number<K: Sink>(
-    block: &mut Block,
-    sink: &mut K,
-    number: u64,
-) -> Result<(), Failed>
-    requires { K.ready sink.old }
-    ensures { Puts K.taken K.faults K.ready sink.old sink.new block.old block.new (codes " " ++ decimal number) result }
-{
-    put_piece(block, sink, b" ")?;
-    put_number(block, sink, number)
-}
-
-/// Puts numbers, with one space before each.
-fn put_spaced<K: Sink>(block: &mut Block, sink: &mut K, numbers: &[Fe]) -> Result<(), Failed>
-    requires { K.ready sink.old }
-    ensures { Puts K.taken K.faults K.ready sink.old sink.new block.old block.new (spaced numbers.now) result }
-{
-    for number in numbers {
-        put_spaced_number(block, sink, number.value())?;
-    }
-    Ok(())
 }
 
 /// Puts the line of the aggregate.
@@ -110,16 +85,13 @@ fn put_claims_out<K: Sink>(
 pub(crate) fn put_ending<K: Sink>(
     block: &mut Block,
     sink: &mut K,
-    accepted: u32,
-    end: End,
-    aggregate: &[Fe],
-    claims: bool,
-    known: &Known,
+    ending: &Ending<'_>,
 ) -> Result<(), Failed>
     requires { K.ready sink.old }
-    ensures { Puts K.taken K.faults K.ready sink.old sink.new block.old block.new (ending_by accepted (withheld_by end) aggregate.now claims (known_in known.now)) result }
+    ensures { Puts K.taken K.faults K.ready sink.old sink.new block.old block.new
+        (ending_by ending.now.accepted (withheld_by ending.now.end) ending.now.aggregate.now ending.now.claims (known_in ending.now.known.now)) result }
 {
-    put_number_line(block, sink, b"count ", accepted)?;
-    put_release(block, sink, end, aggregate)?;
-    put_claims_out(block, sink, claims, known)
+    put_number_line(block, sink, b"count ", ending.accepted)?;
+    put_release(block, sink, ending.end, ending.aggregate)?;
+    put_claims_out(block, sink, ending.claims, ending.known)
 }

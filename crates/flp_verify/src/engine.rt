@@ -7,7 +7,7 @@ ghost use Rattle.flp_io.specs.Writes.{TakesPrefix};
 ghost use Rattle.flp_report.specs.Buckets.{HasBucket};
 ghost use Rattle.flp_report.specs.Nonces.{nonces_in};
 ghost use Rattle.flp_report.specs.Reader.{source_of, SameLoan};
-ghost use Rattle.flp_report.specs.Segment.{shape_in, used_in, records_in};
+ghost use Rattle.flp_report.specs.Segment.{used_in, records_in};
 ghost use Rattle.flp_report.specs.Shape.{bytes_of};
 ghost use Rattle.flp_policy.specs.Counts.{VerdictCounts, no_more};
 ghost use Rattle.flp_known.specs.Known.{known_in};
@@ -20,7 +20,7 @@ ghost use Rattle.flp_batch.specs.Front.{IsAtRecords};
 ghost use Rattle.flp_batch.specs.Opened.{IsRecordsFault, records_size};
 ghost use Rattle.flp_batch.specs.Walk.{Judges, Breaks};
 ghost use Rattle.flp_verify.specs.Numbers.{counts_in};
-ghost use Rattle.flp_verify.specs.Settled.{IsRoomFor, IsBoardFor, IsBetween, IsBehind, Advances, standing, setting_with, opened_with, found_lines};
+ghost use Rattle.flp_verify.specs.Settled.{IsRoomFor, IsBoardFor, IsBetween, IsRound, IsBehind, Advances, standing, setting_with, opened_with, found_lines};
 ghost use Rattle.flp_verify.specs.Text.{verdict_line};
 
 use crate::board::Board;
@@ -30,7 +30,7 @@ use crate::marks::mark;
 use crate::numbers::Numbers;
 use crate::room::Room;
 use crate::telling::tell_segment;
-use flp_batch::EngineFault;
+use flp_batch::{EngineFault, read_end, read_segment};
 use flp_io::{Sink, Source};
 use flp_known::Known;
 use flp_policy::{Floor, Policy};
@@ -80,10 +80,7 @@ fn verify_round<R: Threads + Sync, G: Gate>(
     crew: &mut Crew,
     gate: &G,
 ) -> Board
-    requires segment { (shape_in segment.now ≡ front.now.shape) × (used_in segment.now ≡ count) }
-    requires places { (count ≤ length marks.now) × (count ≤ room_of crew.old) × (first + count ≤ front.now.header.reports) }
-    requires buckets { All (HasBucket front.now.shape) (records_in segment.now) }
-    requires crew { IsCrewFor front.now.loaded.plan front.now.shape crew.old × (workers_of crew.old ≡ front.now.workers) }
+    requires round { IsRound front.now first count segment.now marks.now crew.old }
     requires board { IsBoardFor front.now board }
     requires free { LacksRange first front.now.header.reports board.seat.view.claimed }
     ensures board { IsBoardFor front.now result }
@@ -192,13 +189,18 @@ pub(crate) fn verify_records<R: Threads + Sync, S: Source, K: Sink, G: Gate>(
     flp_pool::laws::nothing_is_taken();
     flp_pool::laws::runs_join();
     let reports = front.header.reports;
-    let most = front.shape.segment();
     let mut settled = 0;
     while settled < reports {
-        let count = most.min(reports - settled);
-        if let Err(fault) = reader.segment(count, &mut room.segment) {
-            return Err(EngineFault::from(fault));
-        }
+        let count = match read_segment(
+            reader,
+            &front.header,
+            &front.shape,
+            settled,
+            &mut room.segment,
+        ) {
+            Ok(count) => count,
+            Err(fault) => return Err(fault),
+        };
         if let Err(fault) = pass_segment(
             rt, alloc, front, settled, count, room, ledger, output, gate, policies,
         ) {
@@ -206,8 +208,5 @@ pub(crate) fn verify_records<R: Threads + Sync, S: Source, K: Sink, G: Gate>(
         }
         settled += count;
     }
-    match reader.end() {
-        Ok(()) => Ok(()),
-        Err(fault) => Err(EngineFault::from(fault)),
-    }
+    read_end(reader)
 }

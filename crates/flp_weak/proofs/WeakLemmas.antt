@@ -1,11 +1,11 @@
 -- Which word is weak, and that it is accepted at few values.
-use Rattle.std.proofs.Common.{ℕ, ◌≡◌, ◌+◌, ◌-◌, ◌*◌, ◌<◌, ◌≤◌, Bool, true, false, cond, List, length, refl, ap, sym, subst, arith, ltb}
-use Rattle.std.specs.Prelude.{Option, None, Some, IfSome}
+use Rattle.std.proofs.Common.{ℕ, ◌≡◌, ◌∙◌, ◌+◌, ◌-◌, ◌*◌, ◌<◌, ◌≤◌, Bool, true, false, cond, List, length, refl, ap, ap₂, sym, subst, arith, ltb}
+use Rattle.std.specs.Prelude.{Option, None, Some, IfSome, ◌↔◌}
 use Rattle.std.specs.Option.{unwrap_or}
 use Rattle.std.proofs.lemmas.Option.{none-some}
 use Rattle.flp_syntax.specs.Tree.{Program}
 use Rattle.flp_meaning.specs.Meaning.{Meant, Results}
-use Rattle.flp_meaning.specs.Circuit.{checks_of, direct, failing_check}
+use Rattle.flp_meaning.specs.Circuit.{IsValid, checks_of, direct, failing_check}
 use Rattle.flp_meaning.specs.Gadgets.{degree_of, size_of, check_count}
 use Rattle.flp_meaning.specs.Lengths.{check_words}
 use Rattle.flp_meaning.specs.Proof.{with_proof}
@@ -28,10 +28,14 @@ first_gadget : (body : Program) (x joint proof : List ℕ) (found : Option ℕ) 
 first_gadget body x joint proof found is =
     subst (IsFirst (gadget_lies body x joint proof) 0 (length body.gadgets)) is (first_is_found (gadget_lies body x joint proof) 0 (length body.gadgets))
 
-pub inside_gadget : (body : Program) (x joint proof : List ℕ) (gadget : ℕ) → lying_gadget body x joint proof ≡ Some gadget → gadget < length body.gadgets
+inside_gadget : (body : Program) (x joint proof : List ℕ) (gadget : ℕ) → lying_gadget body x joint proof ≡ Some gadget → gadget < length body.gadgets
 inside_gadget body x joint proof gadget is =
     let inside : gadget < 0 + length body.gadgets = (first_gadget body x joint proof (Some gadget) is).1 in
     omega arith
+
+pub inside_lying : (body : Program) (x joint proof : List ℕ) (lying : Option ℕ) → lying ≡ lying_gadget body x joint proof → IfSome lying (λ gadget. gadget < length body.gadgets)
+inside_lying body x joint proof None is = tt
+inside_lying body x joint proof (Some gadget) is = inside_gadget body x joint proof gadget (sym is)
 
 -- ---- validity
 
@@ -108,6 +112,18 @@ pub bounded-answer : (body : Program) (x joint proof : List ℕ) (answer : Optio
     → answer ≡ weak_of body x joint proof → IfSome answer (λ (weak : Weak). Bounded body x joint proof weak.word weak.bound)
 bounded-answer body x joint proof None bounded good is = tt
 bounded-answer body x joint proof (Some weak) bounded good is = bounded x joint proof weak good (sym is)
+
+-- none exactly for a valid encoding
+pub none-answer : (body : Program) (x joint proof : List ℕ) (answer : Option Weak) → ValidHasNone body → answer ≡ weak_of body x joint proof → (answer ≡ None) ↔ IsValid body x joint
+none-answer body x joint proof answer law is = (λ none. (law x joint proof).0 (sym is ∙ none), λ valid. is ∙ (law x joint proof).1 valid)
+
+-- the word where no check fails, and where one does
+pub weak_of-none : (body : Program) (x joint proof : List ℕ) → None ≡ failing_check body x joint → None ≡ weak_of body x joint proof
+weak_of-none body x joint proof none = ap (λ (f : Option ℕ). weak_from body f (lying_gadget body x joint proof)) none
+
+pub weak_of-some : (body : Program) (x joint proof : List ℕ) (check : ℕ) (lying : Option ℕ) (weak : Weak) → Some check ≡ failing_check body x joint → lying ≡ lying_gadget body x joint proof
+    → Some weak ≡ weak_from body (Some check) lying → Some weak ≡ weak_of body x joint proof
+weak_of-some body x joint proof check lying weak fails lies is = is ∙ ap₂ (λ (f g : Option ℕ). weak_from body f g) fails lies
 
 -- ---- how low the bound is
 

@@ -1,9 +1,9 @@
 //! Gadgets that lie: a proof has another polynomial for them than their formula at the wires.
 ghost use Rattle.std.specs.Prelude.{◌≡◌, ℕ, ◌<◌, List, length, IfOk};
-ghost use Rattle.flp_meaning.specs.Proof.{answers_in};
 ghost use Rattle.flp_plan.specs.Counted.{counted_lengths};
 ghost use Rattle.flp_plan.specs.Sizes.{sizes_of};
 ghost use Rattle.flp_plan.specs.View.{publics_of};
+ghost use Rattle.flp_weak.specs.Reading.{IsReadByProof};
 ghost use Rattle.flp_weak.specs.WeakWord as weak;
 
 use crate::Memory;
@@ -57,10 +57,7 @@ fn first_lying(
     room: &mut WireRoom,
     formula: &mut [Fe],
 ) -> Option<u32>
-    requires publics { length reading.now.publics.now ≡ length plan.now.steps }
-    requires x { length reading.now.x.now ≡ plan.now.circuit.meas }
-    requires answers { reading.now.answers.now ≡ answers_in plan.now.circuit proof.now }
-    requires unit { reading.now.unit ≡ 1 }
+    requires reading { IsReadByProof plan.now proof.now reading.now.publics.now reading.now.x.now reading.now.answers.now reading.now.unit }
     requires proof { length proof.now ≡ (counted_lengths plan.now.circuit).proof }
     requires made { room.old ≡ sizes_of plan.now }
     requires formula { length formula.old ≡ 32761 }
@@ -84,10 +81,7 @@ fn gadget_lies(
     formula: &mut [Fe],
 ) -> bool
     requires gadget { gadget < length plan.now.circuit.gadgets }
-    requires publics { length reading.now.publics.now ≡ length plan.now.steps }
-    requires x { length reading.now.x.now ≡ plan.now.circuit.meas }
-    requires answers { reading.now.answers.now ≡ answers_in plan.now.circuit proof.now }
-    requires unit { reading.now.unit ≡ 1 }
+    requires reading { IsReadByProof plan.now proof.now reading.now.publics.now reading.now.x.now reading.now.answers.now reading.now.unit }
     requires proof { length proof.now ≡ (counted_lengths plan.now.circuit).proof }
     requires made { room.old ≡ sizes_of plan.now }
     requires formula { length formula.old ≡ 32761 }

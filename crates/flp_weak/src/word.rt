@@ -1,5 +1,5 @@
 //! The weak word of a proof.
-ghost use Rattle.std.specs.Prelude.{◌≡◌, ◌<◌, ◌↔◌, length, IfOk, IfSome, None};
+ghost use Rattle.std.specs.Prelude.{◌≡◌, ◌<◌, ◌↔◌, length, IfOk, IfSome, None, Some};
 ghost use Rattle.flp_meaning.specs.Circuit.{IsValid};
 ghost use Rattle.flp_meaning.specs.Gadgets.{check_count};
 ghost use Rattle.flp_plan.specs.Counted.{counted_lengths};
@@ -50,30 +50,23 @@ pub fn weak_word(
     words::words(proof);
     counted_soundness(plan);
     valid_has_none(plan);
-    let answer = weakest(alloc, plan, x, joint, proof)?;
-    Ok(answer)
-}
-
-/// The weak word.
-fn weakest(
-    alloc: Global,
-    plan: &Plan,
-    x: &[Fe],
-    joint: &[Fe],
-    proof: &[Fe],
-) -> Result<Option<Weak>, Memory>
-    requires x { length x.now ≡ (counted_lengths plan.now.circuit).meas }
-    requires joint { length joint.now ≡ (counted_lengths plan.now.circuit).joint }
-    requires proof { length proof.now ≡ (counted_lengths plan.now.circuit).proof }
-    ensures { IfOk result (λ answer. answer ≡ weak.weak_of plan.now.circuit x.now joint.now proof.now) }
-{
     let mut checker = Checker::new(alloc, plan)?;
     let Some(check) = checker.failing_check(plan, x, joint) else {
         return Ok(None);
     };
-    match lying_gadget(alloc, plan, x, joint, proof)? {
-        Some(gadget) => Ok(Some(weak_point(plan, gadget))),
-        None => Ok(Some(weak_check(plan, check))),
+    let lying = lying_gadget(alloc, plan, x, joint, proof)?;
+    Ok(Some(weakest(plan, check, lying)))
+}
+
+/// The weak word where this check fails, and the least gadget that lies is this one or none does.
+fn weakest(plan: &Plan, check: u32, lying: Option<u32>) -> Weak
+    requires check { check < check_count plan.now.circuit }
+    requires lying { IfSome lying (λ gadget. gadget < length plan.now.circuit.gadgets) }
+    ensures { Some result ≡ weak.weak_from plan.now.circuit (Some check) lying }
+{
+    match lying {
+        Some(gadget) => weak_point(plan, gadget),
+        None => weak_check(plan, check),
     }
 }
 

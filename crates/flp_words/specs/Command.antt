@@ -4,7 +4,7 @@ use Rattle.std.specs.Option.{option_map_or}
 use Rattle.std.specs.Str.{bytes_eq}
 use Rattle.clap.specs.Words.{Kinds, Row, Text, fault_of, first_of, subcommand_of}
 use Rattle.flp_words.specs.declared.command.Command.{Command}
-use Rattle.flp_words.specs.declared.command.Command.TheVariants.{Verify, Prove, Lengths, Prep, Explain}
+use Rattle.flp_words.specs.declared.command.Command.TheVariants.{Verify, Prove, Lengths, Prep, Explain, Hide}
 use Rattle.flp_words.specs.Number.{number_in}
 use Rattle.flp_words.specs.Apps.{flp_app}
 
@@ -14,7 +14,8 @@ IsInRange (Verify workers least claims) = (1 ≤ workers) × (workers ≤ 16)
 IsInRange (Prep party) = party ≤ 15
 IsInRange Prove = ⊤
 IsInRange Lengths = ⊤
-IsInRange Explain = ⊤
+IsInRange (Explain joint) = ⊤
+IsInRange Hide = ⊤
 
 -- the number of an option, where it has a value and that is in the range
 abbrev pub number_of : List Row → Text → ℕ → ℕ → Option ℕ
@@ -34,6 +35,10 @@ verify_in rows =
 abbrev pub prep_in : List Row → Option Command
 prep_in rows = option_map Prep (number_of rows (codes "party") 0 15)
 
+-- `explain` with the wish for what joint words tell
+abbrev pub explain_in : List Row → Command
+explain_in rows = Explain (is_given rows (codes "joint"))
+
 -- the command of a name and the matches of its options
 abbrev pub command_by_name : Text → List Row → Option Command
 command_by_name name rows =
@@ -41,8 +46,9 @@ command_by_name name rows =
     else (if bytes_eq name (codes "prove") then Some Prove
     else (if bytes_eq name (codes "lengths") then Some Lengths
     else (if bytes_eq name (codes "prep") then prep_in rows
-    else (if bytes_eq name (codes "explain") then Some Explain
-    else None))))
+    else (if bytes_eq name (codes "explain") then Some (explain_in rows)
+    else (if bytes_eq name (codes "hide") then Some Hide
+    else None)))))
 
 -- the command of the subcommand that `clap` met
 abbrev pub command_at : Option (Text × List Row) → Option Command

@@ -1,5 +1,6 @@
 use Rattle.std.proofs.Common.{◌≡◌, ℕ, Option, Err, inl, refl, ap, subst, arith}
 use Rattle.std.specs.Prelude.{IfSome}
+use Rattle.std.specs.Io.KnownBytes.{Appends}
 use Rattle.std.proofs.KnownBytes.{Keeps-refl}
 use Rattle.std.proofs.lemmas.Result.{on_ok_weaker, on_err_weaker, IfErr-weaker}
 use Rattle.flp_report.specs.Reads.{ConsumesWithin}
@@ -11,7 +12,7 @@ use Rattle.flp_batch.specs.Format.{batches, front_size}
 use Rattle.flp_batch.specs.File.{IsFault}
 use Rattle.flp_batch.specs.Lines.{lines_of}
 use Rattle.flp_batch.specs.Opened.{Opens}
-use Rattle.flp_batch.proofs.BatchLemmas.{WritesText-behind, stops-behind, early-lines, SettlesEarly-behind, StopsEarly-front, Ends-behind}
+use Rattle.flp_batch.proofs.BatchLemmas.{WritesOf-behind, stops-behind, early-lines, SettlesEarly-behind, StopsEarly-front, Ends-behind}
 use Rattle.flp_batch.proofs.command.perform_on.Goals as goal
 
 pub answer-requires-clause-readable : goal.answer-requires-clause-readable
@@ -22,7 +23,7 @@ returns-in-Ok-clause-done g c =
     let left = g.S.Source.left (source_of c.args.reader.now) in
     let mid = g.S.Source.left (source_of c.open.new.reader) in
     let opens = subst (λ (p : Option ℕ). Opens p left mid c.in-Ok.opened) c.party.ensures c.in-Ok.ensures.opens in
-    on_ok_weaker c.answer.result (λ all. WritesText-behind (g.T.Task.asked c.args.task.now) c.in-Ok.opened (g.T.Task.words c.args.task.now) left mid (g.S.Source.left (source_of c.answer.new.reader)) (g.K.Sink.taken c.args.output.now) (g.K.Sink.taken c.answer.new.output) opens all) c.answer.ensures.done
+    on_ok_weaker c.answer.result (λ all. WritesOf-behind Appends (g.T.Task.asked c.args.task.now) c.in-Ok.opened (λ by. (g.T.Task.words c.args.task.now by).text) left mid (g.S.Source.left (source_of c.answer.new.reader)) (g.K.Sink.taken c.args.output.now) (g.K.Sink.taken c.answer.new.output) opens all) c.answer.ensures.done
 
 pub returns-in-Ok-clause-stopped : goal.returns-in-Ok-clause-stopped
 returns-in-Ok-clause-stopped g c =

@@ -1,20 +1,19 @@
 use Rattle.std.proofs.Common.{◌≡◌, Option, None, List, ℕ, ap, subst}
-use Rattle.std.proofs.lemmas.Result.{IfErr-weaker}
+use Rattle.std.proofs.lemmas.Result.{IfOk-weaker, IfErr-weaker}
 use Rattle.flp_report.specs.Reader.{source_of}
 use Rattle.flp_batch.specs.Reply.{StopsEarly, SettlesEarly}
 use Rattle.flp_batch.proofs.BatchLemmas.{Ends-behind}
 use Rattle.flp_verify.specs.Reply.{CountsRecords, Counts}
 use Rattle.flp_verify.proofs.WholeLemmas.{Counts-behind, stops-early, settles-early}
-use Rattle.flp_verify.proofs.ResultLemmas.{ok-weaker, err-gives}
 use Rattle.flp_verify.proofs.batch.verify_file.Goals as goal
 
 pub returns-in-Ok-clause-done : goal.returns-in-Ok-clause-done
 returns-in-Ok-clause-done g c =
-    ok-weaker c.verify_opened.result (λ counted all. Counts-behind c.in-Ok.opened c.args.least _ _ counted (g.S.Source.left (source_of c.args.reader.now)) (g.S.Source.left (source_of c.open.new.reader)) _ _ _ c.in-Ok.ensures.opens all) c.verify_opened.ensures.done
+    IfOk-weaker c.verify_opened.result _ _ (λ counted all. Counts-behind c.in-Ok.opened c.args.least _ _ counted (g.S.Source.left (source_of c.args.reader.now)) (g.S.Source.left (source_of c.open.new.reader)) _ _ _ c.in-Ok.ensures.opens all) c.verify_opened.ensures.done
 
 pub returns-in-Ok-clause-stopped : goal.returns-in-Ok-clause-stopped
 returns-in-Ok-clause-stopped g c =
-    err-gives c.verify_opened.result (λ fault breaks. stops-early c.in-Ok.opened (g.S.Source.left (source_of c.args.reader.now)) (g.S.Source.left (source_of c.open.new.reader)) _ _ _ c.in-Ok.ensures.opens breaks.stops) c.verify_opened.ensures.breaks
+    IfErr-weaker c.verify_opened.result _ _ (λ fault breaks. stops-early c.in-Ok.opened (g.S.Source.left (source_of c.args.reader.now)) (g.S.Source.left (source_of c.open.new.reader)) _ _ _ c.in-Ok.ensures.opens breaks.stops) c.verify_opened.ensures.breaks
 
 pub returns-in-Ok-clause-settled : goal.returns-in-Ok-clause-settled
 returns-in-Ok-clause-settled g c =

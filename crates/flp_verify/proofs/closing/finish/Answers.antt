@@ -4,30 +4,32 @@ use Rattle.flp_io.specs.Writes.{TakesPrefix}
 use Rattle.flp_known.specs.Known.{known_in}
 use Rattle.flp_tally.specs.Rows.{AreSums}
 use Rattle.flp_verdict.specs.Release.{ending_by}
+use Rattle.flp_verify.specs.declared.counted.Counted.{Counted}
 use Rattle.flp_verify.specs.Counted.{withheld_by, totals_of, totals_in}
 use Rattle.flp_verify.proofs.closing.finish.Goals as goal
+
+-- the words that a tally was closed into
+are-totals : (counted : Counted) {words : List ℕ} → words ≡ totals_of counted.tally.elements counted.seat.view.added → words ≡ totals_in counted
+are-totals counted closed = closed ∙ ap (λ (n : ℕ). totals_of n counted.seat.view.added) counted.sized
 
 pub returns-in-Err-clause-front : goal.returns-in-Err-clause-front
 returns-in-Err-clause-front g c =
     let counted = c.args.counted in
-    let same : c.as_slice.result.now ≡ totals_in counted =
-    c.as_slice.ensures.value ∙ (c.close_into.ensures.totals ∙ ap (λ (n : ℕ). totals_of n counted.seat.view.added) counted.sized) in
+    let same = c.as_slice.ensures.value ∙ are-totals counted c.close_into.ensures.totals in
     subst (λ (l : List ℕ). TakesPrefix (g.K.Sink.taken c.args.output.now) (g.K.Sink.taken c.write_ending.new.sink) (ending_by counted.numbers.accepted (withheld_by counted.end) l c.args.claims (known_in counted.known)))
     same c.in-Err.ensures.front
 
 pub returns-clause-front : goal.returns-clause-front
 returns-clause-front g c =
     let counted = c.args.counted in
-    let same : c.as_slice.result.now ≡ totals_in counted =
-    c.as_slice.ensures.value ∙ (c.close_into.ensures.totals ∙ ap (λ (n : ℕ). totals_of n counted.seat.view.added) counted.sized) in
+    let same = c.as_slice.ensures.value ∙ are-totals counted c.close_into.ensures.totals in
     subst (λ (l : List ℕ). TakesPrefix (g.K.Sink.taken c.args.output.now) (g.K.Sink.taken c.write_ending.new.sink) (ending_by counted.numbers.accepted (withheld_by counted.end) l c.args.claims (known_in counted.known)))
     same c.in-Ok.ensures.front
 
 pub returns-clause-written : goal.returns-clause-written
 returns-clause-written g c =
     let counted = c.args.counted in
-    let same : c.as_slice.result.now ≡ totals_in counted =
-    c.as_slice.ensures.value ∙ (c.close_into.ensures.totals ∙ ap (λ (n : ℕ). totals_of n counted.seat.view.added) counted.sized) in
+    let same = c.as_slice.ensures.value ∙ are-totals counted c.close_into.ensures.totals in
     subst (λ (l : List ℕ). Appends (g.K.Sink.taken c.args.output.now) (g.K.Sink.taken c.write_ending.new.sink) (ending_by counted.numbers.accepted (withheld_by counted.end) l c.args.claims (known_in counted.known)))
     same c.in-Ok.ensures.whole
 
@@ -36,16 +38,15 @@ returns-clause-summary g c =
     let counted = c.args.counted in
     record {
       numbers = refl;
-      totals = c.from_vec.ensures ∙ (c.close_into.ensures.totals ∙ ap (λ (n : ℕ). totals_of n counted.seat.view.added) counted.sized);
-      sums = subst (λ (l : List ℕ). AreSums counted.seat.view.added l) (sym c.from_vec.ensures) c.close_into.ensures.sums;
+      totals = c.from_vec.ensures ∙ (are-totals counted c.close_into.ensures.totals);
     }
 
 pub returns-in-Err-clause-sums : goal.returns-in-Err-clause-sums
 returns-in-Err-clause-sums g c = λ other.
     let counted = c.args.counted in
-    subst (λ (l : List ℕ). AreSums counted.seat.view.added l) (c.close_into.ensures.totals ∙ ap (λ (n : ℕ). totals_of n counted.seat.view.added) counted.sized) c.close_into.ensures.sums
+    subst (λ (l : List ℕ). AreSums counted.seat.view.added l) (are-totals counted c.close_into.ensures.totals) c.close_into.ensures.sums
 
 pub returns-clause-sums : goal.returns-clause-sums
 returns-clause-sums g c = λ other.
     let counted = c.args.counted in
-    subst (λ (l : List ℕ). AreSums counted.seat.view.added l) (c.close_into.ensures.totals ∙ ap (λ (n : ℕ). totals_of n counted.seat.view.added) counted.sized) c.close_into.ensures.sums
+    subst (λ (l : List ℕ). AreSums counted.seat.view.added l) (are-totals counted c.close_into.ensures.totals) c.close_into.ensures.sums

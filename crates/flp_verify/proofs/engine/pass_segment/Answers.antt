@@ -1,5 +1,6 @@
-use Rattle.std.proofs.Common.{rules, ◌≡◌, ◌+◌, ◌++◌, ℕ, Bool, List, length, map, take, get_or, sym, ap, subst, ◌∙◌, arith}
+use Rattle.std.proofs.Common.{rules, ◌≡◌, ◌+◌, ◌++◌, ℕ, Bool, List, Vec, vec_len, length, map, take, get_or, sym, ap, subst, ◌∙◌, arith}
 use Rattle.std.specs.Prelude.{nat_le}
+use Rattle.std.specs.Vec.{with_items}
 use Rattle.std.proofs.lemmas.List.{with_items_is}
 use Rattle.flp_io.proofs.WriteLemmas.{TakesPrefix-refl}
 use Rattle.flp_report.specs.Segment.{used_in, records_in}
@@ -12,17 +13,49 @@ use Rattle.flp_pool.specs.Range.{LacksRange, TakesRange}
 use Rattle.flp_batch.proofs.OutcomeLemmas.{OnErr-always}
 use Rattle.flp_round.specs.Crew.{verdicts_of}
 use Rattle.flp_round.specs.Findings.{verdicts_by, rows_by, row_from}
+use Rattle.flp_verify.specs.declared.front.Front.{Front}
 use Rattle.flp_verify.specs.Marks.{marks_behind}
 use Rattle.flp_verify.specs.Settled.{seen_by, found_behind}
 use Rattle.flp_verify.specs.Told.{AreTold}
 use Rattle.flp_verify.proofs.SettledLemmas.{length-found}
 use Rattle.flp_verify.proofs.engine.pass_segment.Goals as goal
 
+-- the marks that were made are those behind the known nonces
+marks-are : {Z : Type 0} (room : Vec Bool Z) (count : ℕ) (made lent : List Bool) (known records : List (List ℕ)) → length made ≡ vec_len room → lent ≡ (with_items room made).items
+    → take count made ≡ marks_behind known records → take count lent ≡ marks_behind known records
+marks-are room count made lent known records whole is marked = ap (λ (l : List Bool). take count l) (is ∙ with_items_is room made whole) ∙ marked
+
+-- so by these the verdicts are found behind them
+are-found : {Z : Type 0} (front : Front) (room : Vec Bool Z) (count : ℕ) (made lent : List Bool) (known records : List (List ℕ)) (verdicts : List Verdict) → length made ≡ vec_len room → lent ≡ (with_items room made).items
+    → take count made ≡ marks_behind known records → verdicts ≡ verdicts_by front.loaded.plan.circuit front.shape (take count lent) records → verdicts ≡ found_behind front known records
+are-found front room count made lent known records verdicts whole is marked by =
+    by ∙ ap (λ (m : List Bool). verdicts_by front.loaded.plan.circuit front.shape m records) (marks-are room count made lent known records whole is marked)
+
+-- one for each record
+length-verdicts : {Z : Type 0} (front : Front) (room : Vec Bool Z) (count : ℕ) (made lent : List Bool) (known records : List (List ℕ)) (verdicts : List Verdict) → length made ≡ vec_len room → lent ≡ (with_items room made).items
+    → take count made ≡ marks_behind known records → verdicts ≡ verdicts_by front.loaded.plan.circuit front.shape (take count lent) records → length records ≡ count → count ≡ length verdicts
+length-verdicts front room count made lent known records verdicts whole is marked by number =
+    sym (ap (λ (l : List Verdict). length l) (are-found front room count made lent known records verdicts whole is marked by) ∙ (length-found front known records ∙ number))
+
 pub returns-in_err-mark-clause-front : goal.returns-in_err-mark-clause-front
 returns-in_err-mark-clause-front g c = OnErr-always c.from_residual.result (TakesPrefix-refl (g.K.Sink.taken c.args.output.now) _)
 
 pub returns-in_err-board-clause-front : goal.returns-in_err-board-clause-front
 returns-in_err-board-clause-front g c = OnErr-always c.from_residual-in_err-board.result (TakesPrefix-refl (g.K.Sink.taken c.args.output.now) _)
+
+pub verify_round-board-requires-clause-round : goal.verify_round-board-requires-clause-round
+verify_round-board-requires-clause-round g c κs within =
+    let before = c.requires.between.room in
+    record {
+      shape = before.shape;
+      used = c.requires.count.0;
+      buckets = c.requires.buckets;
+      fits = c.requires.count.1;
+      marked = search rules;
+      made = before.crew;
+      room = search rules;
+      workers = before.workers;
+    }
 
 pub verify_round-board-requires-clause-free : goal.verify_round-board-requires-clause-free
 verify_round-board-requires-clause-free g c κs within =
@@ -31,29 +64,13 @@ verify_round-board-requires-clause-free g c κs within =
 
 pub tell_segment-requires-clause-count : goal.tell_segment-requires-clause-count
 tell_segment-requires-clause-count g c =
-    let front = c.args.front.now in
-    let records = records_in c.args.room.now.segment in
-    let known = known_in c.args.ledger.now.known in
-    let long = ap length c.deref_mut.ensures.value in
-    let whole : length c.mark.new.marks ≡ c.args.room.now.marks.len = omega (arith, c.in_ok-mark.ensures.size, long, c.args.room.now.marks.ok.0) in
-    let lent : c.deref.result.now ≡ c.mark.new.marks = c.deref.ensures.value ∙ with_items_is c.args.room.now.marks c.mark.new.marks whole in
-    let marked = ap (λ (l : List Bool). take c.args.count l) lent ∙ c.in_ok-mark.ensures.marked in
-    let found : verdicts_of c.verify_round-board.new.crew ≡ found_behind front known records =
-    c.verify_round-board.ensures.verdicts ∙ ap (λ (m : List Bool). verdicts_by front.loaded.plan.circuit front.shape m records) marked in
-    sym (ap (λ (l : List Verdict). length l) found ∙ (length-found front known records ∙ ((IsCut-held c.args.room.now.segment).number ∙ c.requires.count.0)))
+    let whole : length c.mark.new.marks ≡ c.args.room.now.marks.len = omega (arith, c.in_ok-mark.ensures.size, ap length c.deref_mut.ensures.value, c.args.room.now.marks.ok.0) in
+    length-verdicts c.args.front.now c.args.room.now.marks _ _ _ _ _ _ whole c.deref.ensures.value c.in_ok-mark.ensures.marked c.verify_round-board.ensures.verdicts ((IsCut-held c.args.room.now.segment).number ∙ c.requires.count.0)
 
 pub put_segment-requires-clause-verdicts : goal.put_segment-requires-clause-verdicts
 put_segment-requires-clause-verdicts g c =
-    let front = c.args.front.now in
-    let records = records_in c.args.room.now.segment in
-    let known = known_in c.args.ledger.now.known in
-    let long = ap length c.deref_mut.ensures.value in
-    let whole : length c.mark.new.marks ≡ c.args.room.now.marks.len = omega (arith, c.in_ok-mark.ensures.size, long, c.args.room.now.marks.ok.0) in
-    let lent : c.deref.result.now ≡ c.mark.new.marks = c.deref.ensures.value ∙ with_items_is c.args.room.now.marks c.mark.new.marks whole in
-    let marked = ap (λ (l : List Bool). take c.args.count l) lent ∙ c.in_ok-mark.ensures.marked in
-    let found : verdicts_of c.verify_round-board.new.crew ≡ found_behind front known records =
-    c.verify_round-board.ensures.verdicts ∙ ap (λ (m : List Bool). verdicts_by front.loaded.plan.circuit front.shape m records) marked in
-    sym (ap (λ (l : List Verdict). length l) found ∙ (length-found front known records ∙ ((IsCut-held c.args.room.now.segment).number ∙ c.requires.count.0)))
+    let whole : length c.mark.new.marks ≡ c.args.room.now.marks.len = omega (arith, c.in_ok-mark.ensures.size, ap length c.deref_mut.ensures.value, c.args.room.now.marks.ok.0) in
+    length-verdicts c.args.front.now c.args.room.now.marks _ _ _ _ _ _ whole c.deref.ensures.value c.in_ok-mark.ensures.marked c.verify_round-board.ensures.verdicts ((IsCut-held c.args.room.now.segment).number ∙ c.requires.count.0)
 
 pub returns-in-Ok-clause-between : goal.returns-in-Ok-clause-between
 returns-in-Ok-clause-between g c =
@@ -84,12 +101,9 @@ returns-in-Ok-clause-advances g c =
     let told = c.tell_segment.ensures in
     let number : length records ≡ c.args.count = (IsCut-held c.args.room.now.segment).number ∙ c.requires.count.0 in
     let seen : c.in_ok-board.board.seat.view ≡ seen_by front old.board = search rules in
-    let long = ap length c.deref_mut.ensures.value in
-    let whole : length c.mark.new.marks ≡ c.args.room.now.marks.len = omega (arith, c.in_ok-mark.ensures.size, long, c.args.room.now.marks.ok.0) in
-    let lent : c.deref.result.now ≡ c.mark.new.marks = c.deref.ensures.value ∙ with_items_is c.args.room.now.marks c.mark.new.marks whole in
-    let marked = ap (λ (l : List Bool). take c.args.count l) lent ∙ c.in_ok-mark.ensures.marked in
-    let found : verdicts_of c.verify_round-board.new.crew ≡ found_behind front (known_in old.known) records =
-    verified.verdicts ∙ ap (λ (m : List Bool). verdicts_by plan.circuit front.shape m records) marked in
+    let whole : length c.mark.new.marks ≡ c.args.room.now.marks.len = omega (arith, c.in_ok-mark.ensures.size, ap length c.deref_mut.ensures.value, c.args.room.now.marks.ok.0) in
+    let marked = marks-are c.args.room.now.marks c.args.count _ _ (known_in old.known) records whole c.deref.ensures.value c.in_ok-mark.ensures.marked in
+    let found = are-found front c.args.room.now.marks c.args.count _ _ _ _ _ whole c.deref.ensures.value c.in_ok-mark.ensures.marked verified.verdicts in
     let P : ℕ → View → List Bool → Type 0 = λ n v m. TakesRange (row_from c.args.first (rows_by plan.circuit front.shape m records)) c.args.first (c.args.first + n) v c.verify_round-board.result.seat.view in
     let lets : List ℕ → VerdictCounts → ℕ → Bool = λ needed more of. nat_le (get_or needed of 0) more.accepted in
     record {

@@ -4,5 +4,5 @@ use Rattle.flp_verify.proofs.engine.verify_round.Goals as goal
 
 pub returns-clause-free : goal.returns-clause-free
 returns-clause-free g c =
-    subst (λ (n : ℕ). LacksRange (c.args.first + n) c.args.front.now.header.reports c.verify_segment-seat.result.view.claimed) c.requires.segment.1
+    subst (λ (n : ℕ). LacksRange (c.args.first + n) c.args.front.now.header.reports c.verify_segment-seat.result.view.claimed) c.requires.round.used
     (c.verify_segment-seat.ensures.still_free c.args.front.now.header.reports c.requires.free)

@@ -1,14 +1,34 @@
-use Rattle.std.proofs.Common.{◌∙◌, sym}
-use Rattle.flp_weak.proofs.WeakLemmas.{bounded-answer}
+use Rattle.std.proofs.Common.{sym, ◌∙◌}
+use Rattle.std.specs.Prelude.{None, Some}
+use Rattle.flp_meaning.proofs.FailingLemmas.{failing-inside}
+use Rattle.flp_weak.proofs.WeakLemmas.{inside_lying, none-answer, bounded-answer, weak_of-none, weak_of-some}
 use Rattle.flp_weak.proofs.word.weak_word.Goals as goal
 
+pub weakest-requires-clause-check : goal.weakest-requires-clause-check
+weakest-requires-clause-check c =
+    failing-inside c.args.plan.now.circuit c.args.x.now c.args.joint.now c.in-Some.check (sym c.failing_check.ensures.check ∙ c.in-Some.is)
+
+pub weakest-requires-clause-lying : goal.weakest-requires-clause-lying
+weakest-requires-clause-lying c = inside_lying c.args.plan.now.circuit c.args.x.now c.args.joint.now c.args.proof.now c.in_ok-lying.lying c.in_ok-lying.ensures
+
+pub returns-in_default-clause-exact : goal.returns-in_default-clause-exact
+returns-in_default-clause-exact c =
+    weak_of-none c.args.plan.now.circuit c.args.x.now c.args.joint.now c.args.proof.now (sym c.in_default.is ∙ c.failing_check.ensures.check)
+
+pub returns-in_default-clause-none : goal.returns-in_default-clause-none
+returns-in_default-clause-none c =
+    none-answer c.args.plan.now.circuit c.args.x.now c.args.joint.now c.args.proof.now None c.valid_has_none.ensures (returns-in_default-clause-exact c)
+
+pub returns-clause-exact : goal.returns-clause-exact
+returns-clause-exact c =
+    weak_of-some c.args.plan.now.circuit c.args.x.now c.args.joint.now c.args.proof.now c.in-Some.check c.in_ok-lying.lying c.weakest.result
+    (sym c.in-Some.is ∙ c.failing_check.ensures.check) c.in_ok-lying.ensures c.weakest.ensures
+
 pub returns-clause-none : goal.returns-clause-none
-returns-clause-none c = (
-  λ none. (c.valid_has_none.ensures c.args.x.now c.args.joint.now c.args.proof.now).0 (sym c.in_ok-answer.ensures ∙ none),
-  λ valid. c.in_ok-answer.ensures ∙ (c.valid_has_none.ensures c.args.x.now c.args.joint.now c.args.proof.now).1 valid,
-)
+returns-clause-none c =
+    none-answer c.args.plan.now.circuit c.args.x.now c.args.joint.now c.args.proof.now (Some c.weakest.result) c.valid_has_none.ensures (returns-clause-exact c)
 
 pub returns-clause-bounded : goal.returns-clause-bounded
 returns-clause-bounded c =
-    bounded-answer c.args.plan.now.circuit c.args.x.now c.args.joint.now c.args.proof.now c.in_ok-answer.answer c.counted_soundness.ensures.bounded
-    (record { words = c.words.ensures; size = c.requires.proof }) c.in_ok-answer.ensures
+    bounded-answer c.args.plan.now.circuit c.args.x.now c.args.joint.now c.args.proof.now (Some c.weakest.result) c.counted_soundness.ensures.bounded
+    (record { words = c.words.ensures; size = c.requires.proof }) (returns-clause-exact c)

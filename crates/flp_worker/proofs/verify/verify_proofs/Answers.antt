@@ -17,31 +17,19 @@ fits-in proof proofs shares n sum held below same all =
 
 pub overflow_mul-start : goal.overflow_mul-start
 overflow_mul-start c =
-    let fits : c.loop-proof.proof * (c.args.words.now.shape.shares * length c.args.sum.now) + c.args.words.now.shape.shares * length c.args.sum.now ≤ length c.loop-proof.verifiers =
-    fits-in c.loop-proof.proof c.args.words.now.shape.proofs c.args.words.now.shape.shares (counted_lengths c.args.plan.now.circuit).verifier
-    (length c.args.sum.now) (length c.loop-proof.verifiers) c.loop-proof-test.true c.requires.sum (c.loop-proof.auto.verifiers ∙ c.requires.room) in
-    search rules
+    let fits = fits-in c.loop-proof.proof c.args.words.now.shape.proofs c.args.words.now.shape.shares _ _ _ c.loop-proof-test.true c.requires.sum (c.loop-proof.auto.verifiers ∙ c.requires.room) in search rules
 
 pub overflow_add-of_shares : goal.overflow_add-of_shares
 overflow_add-of_shares c =
-    let fits : c.loop-proof.proof * (c.args.words.now.shape.shares * length c.args.sum.now) + c.args.words.now.shape.shares * length c.args.sum.now ≤ length c.loop-proof.verifiers =
-    fits-in c.loop-proof.proof c.args.words.now.shape.proofs c.args.words.now.shape.shares (counted_lengths c.args.plan.now.circuit).verifier
-    (length c.args.sum.now) (length c.loop-proof.verifiers) c.loop-proof-test.true c.requires.sum (c.loop-proof.auto.verifiers ∙ c.requires.room) in
-    search rules
+    let fits = fits-in c.loop-proof.proof c.args.words.now.shape.proofs c.args.words.now.shape.shares _ _ _ c.loop-proof-test.true c.requires.sum (c.loop-proof.auto.verifiers ∙ c.requires.room) in search rules
 
 pub offset_bounds-verifiers-start : goal.offset_bounds-verifiers-start
 offset_bounds-verifiers-start c =
-    let fits : c.loop-proof.proof * (c.args.words.now.shape.shares * length c.args.sum.now) + c.args.words.now.shape.shares * length c.args.sum.now ≤ length c.loop-proof.verifiers =
-    fits-in c.loop-proof.proof c.args.words.now.shape.proofs c.args.words.now.shape.shares (counted_lengths c.args.plan.now.circuit).verifier
-    (length c.args.sum.now) (length c.loop-proof.verifiers) c.loop-proof-test.true c.requires.sum (c.loop-proof.auto.verifiers ∙ c.requires.room) in
-    search rules
+    let fits = fits-in c.loop-proof.proof c.args.words.now.shape.proofs c.args.words.now.shape.shares _ _ _ c.loop-proof-test.true c.requires.sum (c.loop-proof.auto.verifiers ∙ c.requires.room) in search rules
 
 pub slice_bounds-of_shares-end : goal.slice_bounds-of_shares-end
 slice_bounds-of_shares-end c =
-    let fits : c.loop-proof.proof * (c.args.words.now.shape.shares * length c.args.sum.now) + c.args.words.now.shape.shares * length c.args.sum.now ≤ length c.loop-proof.verifiers =
-    fits-in c.loop-proof.proof c.args.words.now.shape.proofs c.args.words.now.shape.shares (counted_lengths c.args.plan.now.circuit).verifier
-    (length c.args.sum.now) (length c.loop-proof.verifiers) c.loop-proof-test.true c.requires.sum (c.loop-proof.auto.verifiers ∙ c.requires.room) in
-    search rules
+    let fits = fits-in c.loop-proof.proof c.args.words.now.shape.proofs c.args.words.now.shape.shares _ _ _ c.loop-proof-test.true c.requires.sum (c.loop-proof.auto.verifiers ∙ c.requires.room) in search rules
 
 pub returns-in-Err-clause-inside : goal.returns-in-Err-clause-inside
 returns-in-Err-clause-inside c =

@@ -16,10 +16,10 @@ use Rattle.flp_worker.proofs.VerdictLemmas.{verdict-malformed, verdict-inside, v
 use Rattle.flp_worker.proofs.worker.Worker.verify_record.Goals as goal
 
 -- the worker holds the words of the record
-are-words : {Z : Type 0} (held : Vec ℕ Z) (given : Record) (shape seen : Shape) (read lent : List ℕ) → seen ≡ shape → shape_of given ≡ shape → vec_len held ≡ words_of seen
+are-words : {Z : Type 0} (held : Vec ℕ Z) (given : Record) (shape : Shape) (inside seen : Working) (read lent : List ℕ) → inside ≡ seen → seen.shape ≡ shape → shape_of given ≡ shape → vec_len held ≡ words_of inside.shape
     → read ≡ words_in (shape_of given) (record_of given) → lent ≡ (with_items held read).items → lent ≡ words_in shape (record_of given)
-are-words held given shape seen read lent same own room is value =
-    let many : words_of seen ≡ words_of shape = ap (λ (s : Shape). words_of s) same in
+are-words held given shape inside seen read lent view same own room is value =
+    let many : words_of inside.shape ≡ words_of shape = ap (λ (w : Working). words_of w.shape) view ∙ ap (λ (s : Shape). words_of s) same in
     let are : read ≡ words_in shape (record_of given) = is ∙ ap (λ (s : Shape). words_in s (record_of given)) own in
     value ∙ with_items_is held read (ap (λ (l : List ℕ). length l) are ∙ length-words_in shape (record_of given) ∙ sym (room ∙ many)) ∙ are
 
@@ -39,9 +39,7 @@ pub returns-in-Err-verify_proofs-clause-verdict : goal.returns-in-Err-verify_pro
 returns-in-Err-verify_proofs-clause-verdict c =
     let good : bad_word_in (words_in c.args.shape.now (record_of c.args.given.now)) ≡ None =
     bad-word c.load.result _ c.args.given.now c.args.shape.now c.requires.record_shape c.in_default.is c.load.ensures.bad in
-    let shape : c.self.inside.shape ≡ c.args.shape.now = ap (λ (w : Working). w.shape) c.self.view_is ∙ c.requires.made.same_shape in
-    let are : c.deref.result.now ≡ words_in c.args.shape.now (record_of c.args.given.now) =
-    are-words c.self.inside.words c.args.given.now c.args.shape.now c.self.inside.shape c.load.new.out c.deref.result.now shape c.requires.record_shape c.self.invariant.for_words c.in_default.ensures.words c.deref.ensures.value in
+    let are = are-words c.self.inside.words c.args.given.now c.args.shape.now _ _ c.load.new.out c.deref.result.now c.self.view_is c.requires.made.same_shape c.requires.record_shape c.self.invariant.for_words c.in_default.ensures.words c.deref.ensures.value in
     verdict-inside c.args.plan.now.circuit c.args.shape.now (record_of c.args.given.now) c.deref.result.now c.in-Err-verify_proofs.field-0.proof c.in-Err-verify_proofs.field-0.gadget good are c.in-Err-verify_proofs.ensures.inside
 
 pub returns-in-Ok-true-clause-verdict : goal.returns-in-Ok-true-clause-verdict
@@ -49,30 +47,23 @@ returns-in-Ok-true-clause-verdict c =
     let good : bad_word_in (words_in c.args.shape.now (record_of c.args.given.now)) ≡ None =
     bad-word c.load.result _ c.args.given.now c.args.shape.now c.requires.record_shape c.in_default.is c.load.ensures.bad in
     let held : true ≡ all_hold c.args.plan.now.circuit c.args.shape.now c.deref.result.now = cc (c.in-Ok-true.ensures.holds) in
-    let shape : c.self.inside.shape ≡ c.args.shape.now = ap (λ (w : Working). w.shape) c.self.view_is ∙ c.requires.made.same_shape in
-    let are : c.deref.result.now ≡ words_in c.args.shape.now (record_of c.args.given.now) =
-    are-words c.self.inside.words c.args.given.now c.args.shape.now c.self.inside.shape c.load.new.out c.deref.result.now shape c.requires.record_shape c.self.invariant.for_words c.in_default.ensures.words c.deref.ensures.value in
+    let are = are-words c.self.inside.words c.args.given.now c.args.shape.now _ _ c.load.new.out c.deref.result.now c.self.view_is c.requires.made.same_shape c.requires.record_shape c.self.invariant.for_words c.in_default.ensures.words c.deref.ensures.value in
     verdict-held c.args.plan.now.circuit c.args.shape.now (record_of c.args.given.now) c.deref.result.now true good are c.in-Ok-true.ensures.outside held
 
 pub returns-in-Ok-true-clause-row : goal.returns-in-Ok-true-clause-row
 returns-in-Ok-true-clause-row c accepted =
-    let shape : c.self.inside.shape ≡ c.args.shape.now = ap (λ (w : Working). w.shape) c.self.view_is ∙ c.requires.made.same_shape in
-    let are : c.deref.result.now ≡ words_in c.args.shape.now (record_of c.args.given.now) =
-    are-words c.self.inside.words c.args.given.now c.args.shape.now c.self.inside.shape c.load.new.out c.deref.result.now shape c.requires.record_shape c.self.invariant.for_words c.in_default.ensures.words c.deref.ensures.value in
+    let are = are-words c.self.inside.words c.args.given.now c.args.shape.now _ _ c.load.new.out c.deref.result.now c.self.view_is c.requires.made.same_shape c.requires.record_shape c.self.invariant.for_words c.in_default.ensures.words c.deref.ensures.value in
     let kept : length c.write_row.new.row ≡ vec_len c.self.inside.row = c.write_row.auto.row ∙ c.deref_mut-in-Ok-true-2.ensures.len in
     with_items_is c.self.inside.row c.write_row.new.row kept
     ∙ outs-are c.args.plan.now.circuit c.args.shape.now (record_of c.args.given.now) c.deref.result.now c.write_row.new.row are c.write_row.ensures
 
 pub returns-in-Ok-true-clause-verifiers : goal.returns-in-Ok-true-clause-verifiers
 returns-in-Ok-true-clause-verifiers c verdict share proof below inside =
-    let shape : c.self.inside.shape ≡ c.args.shape.now = ap (λ (w : Working). w.shape) c.self.view_is ∙ c.requires.made.same_shape in
-    let sizes : c.verify_proofs.new.challenge.sizes ≡ sizes_of c.args.plan.now =
-    c.in-Ok-true.ensures.again ∙ ap (λ (w : Working). w.sizes) c.self.view_is ∙ c.requires.made.same_sizes in
-    let are : c.deref.result.now ≡ words_in c.args.shape.now (record_of c.args.given.now) =
-    are-words c.self.inside.words c.args.given.now c.args.shape.now c.self.inside.shape c.load.new.out c.deref.result.now shape c.requires.record_shape c.self.invariant.for_words c.in_default.ensures.words c.deref.ensures.value in
+    let sizes = c.in-Ok-true.ensures.again ∙ ap (λ (w : Working). w.sizes) c.self.view_is ∙ c.requires.made.same_sizes in
+    let are = are-words c.self.inside.words c.args.given.now c.args.shape.now _ _ c.load.new.out c.deref.result.now c.self.view_is c.requires.made.same_shape c.requires.record_shape c.self.invariant.for_words c.in_default.ensures.words c.deref.ensures.value in
     let kept : length c.verify_proofs.new.verifiers ≡ vec_len c.self.inside.verifiers = c.verify_proofs.auto.verifiers ∙ c.deref_mut-2.ensures.len in
     kept-is c.args.plan.now c.args.shape.now c.self.inside.shape c.verify_proofs.new.challenge.sizes (with_items c.self.inside.verifiers c.verify_proofs.new.verifiers).items
-    (record_of c.args.given.now) c.deref.result.now share proof shape sizes
+    (record_of c.args.given.now) c.deref.result.now share proof (ap (λ (w : Working). w.shape) c.self.view_is ∙ c.requires.made.same_shape) sizes
     (with_items_is c.self.inside.verifiers c.verify_proofs.new.verifiers kept ∙ c.in-Ok-true.ensures.verifiers) are below inside
 
 pub returns-in-Ok-false-clause-verdict : goal.returns-in-Ok-false-clause-verdict
@@ -80,19 +71,14 @@ returns-in-Ok-false-clause-verdict c =
     let good : bad_word_in (words_in c.args.shape.now (record_of c.args.given.now)) ≡ None =
     bad-word c.load.result _ c.args.given.now c.args.shape.now c.requires.record_shape c.in_default.is c.load.ensures.bad in
     let held : false ≡ all_hold c.args.plan.now.circuit c.args.shape.now c.deref.result.now = cc (c.in-Ok-false.ensures.holds) in
-    let shape : c.self.inside.shape ≡ c.args.shape.now = ap (λ (w : Working). w.shape) c.self.view_is ∙ c.requires.made.same_shape in
-    let are : c.deref.result.now ≡ words_in c.args.shape.now (record_of c.args.given.now) =
-    are-words c.self.inside.words c.args.given.now c.args.shape.now c.self.inside.shape c.load.new.out c.deref.result.now shape c.requires.record_shape c.self.invariant.for_words c.in_default.ensures.words c.deref.ensures.value in
+    let are = are-words c.self.inside.words c.args.given.now c.args.shape.now _ _ c.load.new.out c.deref.result.now c.self.view_is c.requires.made.same_shape c.requires.record_shape c.self.invariant.for_words c.in_default.ensures.words c.deref.ensures.value in
     verdict-held c.args.plan.now.circuit c.args.shape.now (record_of c.args.given.now) c.deref.result.now false good are c.in-Ok-false.ensures.outside held
 
 pub returns-in-Ok-false-clause-verifiers : goal.returns-in-Ok-false-clause-verifiers
 returns-in-Ok-false-clause-verifiers c verdict share proof below inside =
-    let shape : c.self.inside.shape ≡ c.args.shape.now = ap (λ (w : Working). w.shape) c.self.view_is ∙ c.requires.made.same_shape in
-    let sizes : c.verify_proofs.new.challenge.sizes ≡ sizes_of c.args.plan.now =
-    c.in-Ok-false.ensures.again ∙ ap (λ (w : Working). w.sizes) c.self.view_is ∙ c.requires.made.same_sizes in
-    let are : c.deref.result.now ≡ words_in c.args.shape.now (record_of c.args.given.now) =
-    are-words c.self.inside.words c.args.given.now c.args.shape.now c.self.inside.shape c.load.new.out c.deref.result.now shape c.requires.record_shape c.self.invariant.for_words c.in_default.ensures.words c.deref.ensures.value in
+    let sizes = c.in-Ok-false.ensures.again ∙ ap (λ (w : Working). w.sizes) c.self.view_is ∙ c.requires.made.same_sizes in
+    let are = are-words c.self.inside.words c.args.given.now c.args.shape.now _ _ c.load.new.out c.deref.result.now c.self.view_is c.requires.made.same_shape c.requires.record_shape c.self.invariant.for_words c.in_default.ensures.words c.deref.ensures.value in
     let kept : length c.verify_proofs.new.verifiers ≡ vec_len c.self.inside.verifiers = c.verify_proofs.auto.verifiers ∙ c.deref_mut-2.ensures.len in
     kept-is c.args.plan.now c.args.shape.now c.self.inside.shape c.verify_proofs.new.challenge.sizes (with_items c.self.inside.verifiers c.verify_proofs.new.verifiers).items
-    (record_of c.args.given.now) c.deref.result.now share proof shape sizes
+    (record_of c.args.given.now) c.deref.result.now share proof (ap (λ (w : Working). w.shape) c.self.view_is ∙ c.requires.made.same_shape) sizes
     (with_items_is c.self.inside.verifiers c.verify_proofs.new.verifiers kept ∙ c.in-Ok-false.ensures.verifiers) are below inside
