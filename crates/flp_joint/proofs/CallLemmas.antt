@@ -44,6 +44,7 @@ named params x call bound e = by_chunk (chunk_of params) refl parts.1
   where
     parts : (are_zero (fixed_checks params x) ≡ true) × (option_and_then (λ chunk. least_call chunk x) (chunk_of params) ≡ Some (Word call bound))
     parts = named_parts (are_zero (fixed_checks params x)) (option_and_then (λ chunk. least_call chunk x) (chunk_of params)) call bound e
+
     by_place : (chunk : ℕ) → chunk_of params ≡ Some chunk → (o : Option ℕ) → position (λ w. ltb 1 w) x ≡ o → option_map (λ place. Word (place / chunk) chunk) o ≡ Some (Word call bound) → IsNamed params x call bound
     by_place chunk is None first f = cc
     by_place chunk is (Some place) first f =
@@ -55,6 +56,7 @@ named params x call bound e = by_chunk (chunk_of params) refl parts.1
           first = first;
           at = ap (λ (k : ℕ). place / k) (sym same) ∙ ap (λ (o : Option Caught). word_of (caught_or o)) f;
         }
+
     by_chunk : (o : Option ℕ) → chunk_of params ≡ o → option_and_then (λ chunk. least_call chunk x) o ≡ Some (Word call bound) → IsNamed params x call bound
     by_chunk None is f = cc
     by_chunk (Some chunk) is f = by_place chunk is (position (λ w. ltb 1 w) x) refl f
@@ -79,12 +81,12 @@ least_is chunk x place call some first at =
     record {
       some = (place % chunk, mod-lt place some, subst (λ (k : ℕ). 1 < word x k) (sym here) other);
       least = λ e h.
-      let before : place ≤ e * chunk + h.0 =
-      ⊎_elim
-      (λ (lt : e * chunk + h.0 < place). absurd (let small : word x (e * chunk + h.0) ≤ 1 = ltb-false 1 (word x (e * chunk + h.0)) (there.2 (e * chunk + h.0) lt) in omega (arith, h.2)))
-      (λ (ge : place ≤ e * chunk + h.0). ge)
-      (cases_lt (e * chunk + h.0) place) in
-      let top : place < suc e * chunk = omega (arith, h.1) in
-      let below : place / chunk < suc e = (div-lt_iff_lt-mul {k = chunk} {x = place} {y = suc e} some).1 top in
-      omega arith;
+          let before : place ≤ e * chunk + h.0 =
+          ⊎_elim
+          (λ (lt : e * chunk + h.0 < place). absurd (let small : word x (e * chunk + h.0) ≤ 1 = ltb-false 1 (word x (e * chunk + h.0)) (there.2 (e * chunk + h.0) lt) in omega (arith, h.2)))
+          (λ (ge : place ≤ e * chunk + h.0). ge)
+          (cases_lt (e * chunk + h.0) place) in
+          let top : place < suc e * chunk = omega (arith, h.1) in
+          let below : place / chunk < suc e = (div-lt_iff_lt-mul {k = chunk} {x = place} {y = suc e} some).1 top in
+          omega arith;
     }

@@ -58,6 +58,7 @@ no_never params x = by_chunk (chunk_of params)
     by_place : (chunk : ℕ) (o : Option ℕ) → option_map (λ place. Word (place / chunk) chunk) o ≡ Some Never → ⊥
     by_place chunk None e = cc
     by_place chunk (Some place) e = cc
+
     by_chunk : (o : Option ℕ) → option_and_then (λ chunk. least_call chunk x) o ≡ Some Never → ⊥
     by_chunk None e = cc
     by_chunk (Some chunk) e = by_place chunk (position (λ w. ltb 1 w) x) e
