@@ -1,7 +1,7 @@
 -- The call of the range check that is named.
-use Rattle.std.proofs.Common.{ℕ, zero, suc, ◌+◌, ◌-◌, ◌*◌, ◌/◌, ◌%◌, ◌<◌, ◌≤◌, ◌≡◌, Bool, true, false, cond, ltb, Option, None, Some, List, length, get_or, position, sym, subst, ap, ◌∙◌, refl, ⊎_elim, arith}
+use Rattle.std.proofs.Common.{ℕ, suc, ◌+◌, ◌*◌, ◌/◌, ◌%◌, ◌<◌, ◌≤◌, ◌≡◌, Bool, true, false, cond, ltb, Option, None, Some, List, position, sym, subst, ap, ◌∙◌, refl, ⊎_elim, arith}
 use Rattle.std.specs.Option.{option_map, option_and_then, unwrap_or}
-use Rattle.std.proofs.Math.Nat.{div-add-mod', div-lt_iff_lt-mul, le-div_iff_mul-le, mod-lt}
+use Rattle.std.proofs.Math.Nat.{div-add-mod', div-lt_iff_lt-mul, mod-lt}
 use Rattle.std.proofs.lemmas.Bool.{ltb-true, ltb-false, cases_lt}
 use Rattle.std.proofs.lemmas.List.Quantifiers.{position-Some}
 use Rattle.flp_syntax.specs.declared.syntax.Params.{Params}
@@ -12,7 +12,7 @@ use Rattle.flp_circuits.proofs.Fitting.{fitting}
 use Rattle.flp_joint.specs.declared.caught.Caught.{Caught}
 use Rattle.flp_joint.specs.declared.caught.Caught.TheVariants.{Never, Word}
 use Rattle.flp_joint.specs.Caught.{are_zero, chunk_of, fixed_checks, least_call, caught_in}
-use Rattle.flp_joint.specs.Laws.{HasOther, IsLeastCall}
+use Rattle.flp_joint.specs.Laws.{IsLeastCall}
 use Rattle.flp_joint.proofs.CheckLemmas.{AllZero, all_zero}
 
 -- a word is named where the other checks pass, at the place of the first word that is no bit
