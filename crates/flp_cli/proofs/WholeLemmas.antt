@@ -154,7 +154,7 @@ lengths-done input output done =
     record {
       known = refl;
       writes = record {
-        bytes = reads.text;
+        bytes = done.text;
         text = lengths_text done.circuit;
         read = reads.read.read;
         ended = reads.ended;
@@ -162,7 +162,7 @@ lengths-done input output done =
           params = done.params;
           circuit = done.circuit;
           made = refl;
-          loaded = subst (λ (t : List ℕ). IsLoaded t done.params done.circuit) (whole-text reads.text reads.read.few) reads.loaded;
+          loaded = subst (λ (t : List ℕ). IsLoaded t done.params done.circuit) (whole-text done.text reads.read.few) reads.loaded;
         };
         written = done.written;
       };
@@ -172,7 +172,7 @@ lengths-late : (input output : Stream) → StopsInLengths input.old input.new ou
 lengths-late input output done =
     let reads = done.read in
     record {
-      bytes = reads.text;
+      bytes = done.text;
       text = lengths_text done.circuit;
       read = reads.read.read;
       ended = reads.ended;
@@ -180,7 +180,7 @@ lengths-late input output done =
         params = done.params;
         circuit = done.circuit;
         made = refl;
-        loaded = subst (λ (t : List ℕ). IsLoaded t done.params done.circuit) (whole-text reads.text reads.read.few) reads.loaded;
+        loaded = subst (λ (t : List ℕ). IsLoaded t done.params done.circuit) (whole-text done.text reads.read.few) reads.loaded;
       };
       written = done.written;
     }

@@ -2,7 +2,7 @@
 use Rattle.std.proofs.Common.{ℕ, zero, suc, ◌≡◌, ◌+◌, ◌<◌, ◌≤◌, List, Option, Some, None, refl, subst, ⊎_elim, inl, inr, arith}
 use Rattle.std.specs.Prelude.{◌⊎◌}
 use Rattle.std.specs.List.{range_with_len}
-use Rattle.std.specs.Option.{option_map, option_or}
+use Rattle.std.specs.Option.{option_map}
 use Rattle.flp_meaning.specs.Circuit.{IsValid, failing_check}
 use Rattle.flp_meaning.proofs.FailingLemmas.{none_fails-valid}
 use Rattle.flp_circuits.proofs.EncodingLemmas.{option_or_none}

@@ -20,9 +20,8 @@ use Rattle.flp_report.specs.Record.{words_in}
 use Rattle.flp_report.specs.Words.{words}
 use Rattle.flp_report.specs.Layout.{word_bytes}
 use Rattle.flp_report.specs.Job.{job_part_of, job_bytes_of, job_bad_word}
-use Rattle.flp_report.specs.JobParts.{input_in, parts_in, seeds_in_job, job_own_word, job_own_start, job_joint_in, job_query_in}
+use Rattle.flp_report.specs.JobParts.{input_in, parts_in, seeds_in_job, job_joint_in, job_query_in}
 use Rattle.flp_report.proofs.WordsLemmas.{length-words}
-use Rattle.flp_report.proofs.WordPartsLemmas.{one_fits}
 use Rattle.flp_report.proofs.ReportLemmas.{words-word_bytes, length-word_bytes}
 use Rattle.flp_worker.specs.Parts.{joint_words, query_words, unshared_encoding, unshared_proof}
 use Rattle.flp_worker.proofs.PrefixLemmas.{part-fits}

@@ -1,9 +1,9 @@
 -- no job file has two answers
 mod LawAnswerLemmas
 -- parts of lists
-mod LawPartLemmas
+pub mod LawPartLemmas
 -- encodings and honest proofs
-mod LawWordLemmas
+pub mod LawWordLemmas
 -- jobs whose place is not bad
 pub mod LawPlaceLemmas
 -- the record that is made of a job

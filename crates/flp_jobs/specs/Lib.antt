@@ -14,7 +14,7 @@ pub mod Rules
 pub mod Record
 -- what reading a job file gave
 pub mod Reading
--- what `prove` wrote, and how it ended
+-- what `prove` asks of a job file, and what it wrote
 pub mod Reply
 -- the room for judging places
 pub mod Judge

@@ -11,7 +11,8 @@ ghost use Rattle.flp_jobs.specs.Maker.{IsMadeFor};
 ghost use Rattle.flp_jobs.specs.Place as place;
 ghost use Rattle.flp_jobs.specs.Reading.{setting_of, text_read, IsWhole};
 ghost use Rattle.flp_jobs.specs.Record.{record_made, batch_text};
-ghost use Rattle.flp_jobs.specs.Reply.{WritesBatch, StopsInBatch, ProveEnds};
+ghost use Rattle.flp_jobs.specs.Reply.{prove_rules, WritesBatch, StopsInBatch};
+ghost use Rattle.flp_jobs.specs.Rules.{JobsEnd};
 
 use crate::fault::ProveFault;
 use crate::file::JobFile;
@@ -114,7 +115,7 @@ pub fn prove<S: Source, K: Sink>(
     ensures done { OnOk result (WritesBatch (S.left input.old) (S.left input.new) (K.taken output.old) (K.taken output.new)) }
     ensures kept { IfErr result (λ fault. fault ≢ ProveFault.File WriteFailed → Keeps (K.taken output.old) (K.taken output.new)) }
     ensures stopped { result ≡ Err (ProveFault.File WriteFailed) → StopsInBatch (S.left input.old) (S.left input.new) (K.taken output.old) (K.taken output.new) }
-    ensures ends { ProveEnds (S.left input.old) (S.left input.new) (S.faults input.old) (S.faults input.new) (K.faults output.old) (K.faults output.new) result }
+    ensures ends { JobsEnd prove_rules (S.left input.old) (S.left input.new) (S.faults input.old) (S.faults input.new) (K.faults output.old) (K.faults output.new) result }
 {
     perform(alloc, &Proves, input, output)
 }

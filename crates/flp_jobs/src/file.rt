@@ -14,11 +14,11 @@ ghost use Rattle.flp_batch.specs.File.{IsFault, TakesFew};
 ghost use Rattle.flp_jobs.specs.Setting.{IsCircuitOf};
 ghost use Rattle.flp_jobs.specs.Reading.{OpensJobs, IsAtJobs, Reads, IsWhole, IsRefusedBehind};
 
+use crate::rules::Joints;
 use flp_batch::EngineFault;
 use flp_circuits::input_len;
 use flp_io::Source;
 use flp_load::{Loaded, load_circuit};
-use crate::rules::Joints;
 use flp_report::{Header, Job, JobHeader, JobReader, JobShape, Jobs, ReadFault};
 use std::alloc::Global;
 

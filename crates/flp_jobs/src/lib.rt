@@ -16,6 +16,7 @@
 //! | say why there is none | [`ProveFault`], [`PlaceFault`] |
 //! | run another command over a job file, whose places are judged first | [`perform`], with a [`JobTask`] that has [`Rules`] |
 //! | bring the words of a job of a [`JobFile`] into the field | [`load_encoding`], [`load_joint`], [`load_seeds`], [`load_query`] |
+//! | bring words out of the field | [`write_numbers`] |
 //! | know that no file has two answers, and that a batch is read again as honest reports | [`laws`] |
 //!
 //! Memory is taken for the whole job file, its circuit and one record, before anything is written.
@@ -41,6 +42,7 @@ pub use file::JobFile;
 pub use parts::{load_encoding, load_joint, load_query, load_seeds};
 pub use rules::{Joints, Rules};
 pub use task::{JobTask, perform};
+pub use words::write_numbers;
 
 /// Want of memory, as std's allocators answer it.
 pub use std::alloc::AllocError as Memory;

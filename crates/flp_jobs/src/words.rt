@@ -93,7 +93,7 @@ pub(crate) fn write_unshared(
 }
 
 /// Writes words as numbers.
-fn write_numbers(words: &[Fe], numbers: &mut [u64])
+pub fn write_numbers(words: &[Fe], numbers: &mut [u64])
     requires { length words.now ≡ length numbers.old }
     ensures { numbers.new ≡ words.now }
 {

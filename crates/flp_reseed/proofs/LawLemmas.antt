@@ -1,5 +1,5 @@
 -- The law of the printed seeds.
-use Rattle.std.proofs.Common.{◌≡◌, ℕ, ◌<◌, List, [], ◌∷◌}
+use Rattle.std.proofs.Common.{ℕ, ◌<◌, List, [], ◌∷◌}
 use Rattle.std.specs.List.{All}
 use Rattle.std.proofs.lemmas.List.Elements.{All-head, All-tail, All-weaker}
 use Rattle.flp_hide.specs.Laws.{IsOutside}
@@ -8,7 +8,6 @@ use Rattle.flp_load.specs.Laws.{LoadedIsBounded}
 use Rattle.flp_report.specs.Job.{jobs_of}
 use Rattle.flp_batch.specs.JobSetting.{JobSetting}
 use Rattle.flp_jobs.specs.Encoding.{job_joint, job_query, job_seeds, job_encoding}
-use Rattle.flp_jobs.specs.Rules.{IsGoodFile}
 use Rattle.flp_jobs.specs.Place.{first_job}
 use Rattle.flp_jobs.proofs.LawRecordLemmas.{IsSound, IsGood, valid-under, seeds-are}
 use Rattle.flp_jobs.proofs.LawFileLemmas.{is_sound, jobs-good}

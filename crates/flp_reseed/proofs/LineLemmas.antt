@@ -35,6 +35,12 @@ module _ (f : ℕ → List ℕ) (k n : ℕ) where
       let none : n - k ≡ 0 = omega arith in
       ap (λ (m : ℕ). flat_map f (range_with_len k m)) none
 
+-- all of them
+pub numbers-all : (f : ℕ → List ℕ) (n : ℕ) → flat_map f (range_with_len 0 n) ≡ numbers-left f 0 n
+numbers-all f n =
+    let whole : n ≡ n - 0 = omega arith in
+    ap (λ (m : ℕ). flat_map f (range_with_len 0 m)) whole
+
 -- ---- the texts of jobs
 
 module _ (f : List ℕ → List ℕ) (jobs : List (List ℕ)) where

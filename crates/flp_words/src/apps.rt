@@ -2,7 +2,7 @@
 ghost use Rattle.std.specs.Prelude.{◌≡◌, IfOk, false};
 ghost use Rattle.clap.specs.Words.{app_of, rule_of};
 ghost use Rattle.clap.specs.declared.builder.command.Command.TheViews.{out-Command as fields_of};
-ghost use Rattle.flp_words.specs.Apps.{value_option, required_option, default_option, flag, verify_app, prep_app, explain_app, first_app, middle_app, flp_app};
+ghost use Rattle.flp_words.specs.Apps.{value_option, required_option, default_option, flag, verify_app, prep_app, explain_app, trial_app, first_app, middle_app, last_app, flp_app};
 
 use clap::{Arg, ArgAction, Command};
 use std::alloc::{AllocError, Global};
@@ -66,6 +66,17 @@ fn explain_app<'a>(alloc: Global) -> Result<Command<'a>, AllocError>
     Command::new(alloc, "explain").arg(flag(alloc, "joint"))
 }
 
+/// `trial --seed X --reports N --workers W`.
+fn trial_app<'a>(alloc: Global) -> Result<Command<'a>, AllocError>
+    ensures app { IfOk result (λ c. app_of c ≡ trial_app) }
+    ensures local { IfOk result (λ c. (fields_of c).has_globals ≡ false) }
+{
+    Command::new(alloc, "trial")
+        .arg(required_option(alloc, "seed"))?
+        .arg(required_option(alloc, "reports"))?
+        .arg(required_option(alloc, "workers"))
+}
+
 /// The program, with the first two of its commands: a part of a list that is too long for one proof.
 fn first_app<'a>(alloc: Global) -> Result<Command<'a>, AllocError>
     ensures app { IfOk result (λ c. app_of c ≡ first_app) }
@@ -84,11 +95,18 @@ fn middle_app<'a>(alloc: Global) -> Result<Command<'a>, AllocError>
         .subcommand(prep_app(alloc)?)
 }
 
-/// The program, with a subcommand for each command.
-pub fn flp_app<'a>(alloc: Global) -> Result<Command<'a>, AllocError>
-    ensures app { IfOk result (λ c. app_of c ≡ flp_app) }
+/// With all but one.
+fn last_app<'a>(alloc: Global) -> Result<Command<'a>, AllocError>
+    ensures app { IfOk result (λ c. app_of c ≡ last_app) }
 {
     middle_app(alloc)?
         .subcommand(explain_app(alloc)?)?
         .subcommand(Command::new(alloc, "hide"))
+}
+
+/// The program, with a subcommand for each command.
+pub fn flp_app<'a>(alloc: Global) -> Result<Command<'a>, AllocError>
+    ensures app { IfOk result (λ c. app_of c ≡ flp_app) }
+{
+    last_app(alloc)?.subcommand(trial_app(alloc)?)
 }

@@ -1,5 +1,5 @@
 use Rattle.flp_batch.specs.Format.{job_files}
-use Rattle.flp_jobs.proofs.LawAnswerLemmas.{SettingIsOne, FaultIsOne, FilesHaveNoFault, one_setting, one_refusal, never_both}
+use Rattle.flp_jobs.proofs.LawAnswerLemmas.{one_setting, one_refusal, never_both}
 use Rattle.flp_jobs.proofs.laws.one_answer.Goals as goal
 
 pub returns-clause-setting : goal.returns-clause-setting

@@ -1,4 +1,4 @@
-use Rattle.std.proofs.Common.{◌≡◌, None, Some, sym, ap, rules, ◌∙◌}
+use Rattle.std.proofs.Common.{◌≡◌, None, sym, ap, rules, ◌∙◌}
 use Rattle.flp_report.specs.JobParts.{jobs_in}
 use Rattle.flp_jobs.specs.declared.rules.Rules.{Rules}
 use Rattle.flp_jobs.specs.Place.{bad_place}

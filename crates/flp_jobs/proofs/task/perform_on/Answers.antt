@@ -1,4 +1,4 @@
-use Rattle.std.proofs.Common.{ℕ, Option, List, ap, subst}
+use Rattle.std.proofs.Common.{ℕ, Option, List, subst}
 use Rattle.std.specs.Prelude.{IfSome}
 use Rattle.std.proofs.lemmas.Result.{on_ok_weaker}
 use Rattle.flp_report.specs.Reader.{source_of}

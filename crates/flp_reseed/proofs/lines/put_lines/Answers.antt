@@ -1,4 +1,4 @@
-use Rattle.std.proofs.Common.{◌≡◌, List, ℕ, length, sym, subst, ◌∙◌, arith, Ok}
+use Rattle.std.proofs.Common.{◌≡◌, List, ℕ, length, sym, subst, ◌∙◌, Ok}
 use Rattle.flp_io.specs.declared.failed.Failed.{Failed}
 use Rattle.flp_report.specs.JobParts.{jobs_in, job_of}
 use Rattle.flp_jobs.specs.declared.rules.Joints.TheVariants.{First}
@@ -23,6 +23,6 @@ pub returns-then-file-eq0 : goal.returns-then-file-eq0
 returns-then-file-eq0 g c =
     let file = c.args.file.now in
     let jobs = jobs_in file.jobs in
-    let none : length jobs ≡ 0 = ? in
+    let none : length jobs ≡ 0 = count-jobs file c.requires.whole ∙ c.if-file-eq0.true in
     subst (λ (text : List ℕ). Puts {T = Unit {0}} {E = Failed} g.K.Sink.taken g.K.Sink.faults g.K.Sink.ready c.args.sink.now c.args.sink.now c.args.block.now c.args.block.now text (Ok tt))
     (sym (no-lines (setting_of file) jobs none)) (Puts-none c.args.sink.now c.args.block.now tt c.requires.ready)

@@ -1,8 +1,8 @@
-use Rattle.std.proofs.Common.{◌≡◌, ◌≤◌, ◌+◌, ◌∙◌, List, ℕ, length, drop, refl, arith}
+use Rattle.std.proofs.Common.{◌≤◌, ◌+◌, length, drop, refl, arith}
 use Rattle.std.specs.List.{flat_map}
 use Rattle.flp_report.specs.JobParts.{jobs_in, job_of}
 use Rattle.flp_jobs.specs.declared.rules.Joints.TheVariants.{First}
-use Rattle.flp_jobs.specs.Place.{judged_under, first_job}
+use Rattle.flp_jobs.specs.Place.{first_job}
 use Rattle.flp_jobs.specs.Reading.{setting_of}
 use Rattle.flp_jobs.proofs.FileLemmas.{count-jobs}
 use Rattle.flp_jobs.proofs.MeasLemmas.{input-taken}

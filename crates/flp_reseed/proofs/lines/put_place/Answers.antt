@@ -1,16 +1,18 @@
-use Rattle.std.proofs.Common.{◌+◌, ◌∙◌, refl, arith}
+use Rattle.std.proofs.Common.{◌+◌, refl, arith}
 use Rattle.flp_report.specs.JobParts.{job_of}
 use Rattle.flp_jobs.specs.Reading.{setting_of}
 use Rattle.flp_known.proofs.PutsLemmas.{UpTo-none, UpTo-more, UpTo-stop}
 use Rattle.flp_reseed.specs.Text.{seeds_line, place_lines}
-use Rattle.flp_reseed.proofs.LineLemmas.{UpTo-all, numbers-left, numbers-more, numbers-none}
+use Rattle.flp_reseed.proofs.LineLemmas.{UpTo-all, numbers-left, numbers-all, numbers-more, numbers-none}
 use Rattle.flp_reseed.proofs.lines.put_place.Goals as goal
 
 pub loop-proof-init : goal.loop-proof-init
 loop-proof-init g c =
-    let text = place_lines (setting_of c.args.file.now) (job_of c.args.first.now) (job_of c.args.job.now) in
+    let f = seeds_line (setting_of c.args.file.now) (job_of c.args.first.now) (job_of c.args.job.now) in
+    let n = c.args.file.now.shape.proofs in
     record {
-      puts = UpTo-none c.args.sink.now c.args.block.now text text refl c.requires.ready;
+      puts = UpTo-none c.args.sink.now c.args.block.now (place_lines (setting_of c.args.file.now) (job_of c.args.first.now) (job_of c.args.job.now)) (numbers-left f 0 n)
+          (numbers-all f n) c.requires.ready;
       both = c.turn_to.ensures;
     }
 

@@ -1,4 +1,4 @@
-use Rattle.std.proofs.Common.{List, ℕ, sym, ap, ◌∙◌}
+use Rattle.std.proofs.Common.{sym, ap, ◌∙◌}
 use Rattle.flp_report.specs.JobParts.{jobs_in}
 use Rattle.flp_jobs.specs.declared.rules.Joints.{Joints}
 use Rattle.flp_jobs.specs.Place.{judged_under, first_job}
