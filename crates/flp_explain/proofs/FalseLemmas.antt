@@ -30,7 +30,7 @@ use Rattle.flp_worker.specs.Worker.{IsShapeOf}
 use Rattle.flp_worker.proofs.PartLemmas.{length-words_in, own-inside, words-part}
 use Rattle.flp_explain.specs.Found.{weak_in}
 use Rattle.flp_explain.specs.Told.{HasBound}
-use Rattle.flp_explain.specs.Laws.{query_word, with_query_word, AcceptsValue, IsFalseReport, IsLimited, LimitsFalseReports}
+use Rattle.flp_explain.specs.Laws.{query_word, with_query_word, AcceptsValue, IsFalseReport, LimitsFalseReports}
 use Rattle.flp_explain.proofs.ReplacedLemmas.{words-replaced, encoding-kept, proof-kept, joint-kept, query-replaced}
 
 -- ---- what an accepted record says of one proof

@@ -1,8 +1,7 @@
 -- The lines of a record, and of the proofs of a record.
-use Rattle.std.proofs.Common.{◌≡◌, ℕ, Bool, List, [], ◌++◌, sym, ap, ap₂, ◌∙◌, append_assoc}
+use Rattle.std.proofs.Common.{◌≡◌, ℕ, Bool, List, [], ◌++◌, sym, ap, ap₂, ◌∙◌}
 use Rattle.std.specs.Prelude.{Option, None, Some}
 use Rattle.std.specs.List.{flat_map}
-use Rattle.flp_syntax.specs.declared.syntax.Params.{Params}
 use Rattle.flp_syntax.specs.Tree.{Program}
 use Rattle.flp_report.specs.declared.shape.Shape.{Shape}
 use Rattle.flp_report.specs.Record.{nonce_in, words_in}
@@ -13,7 +12,7 @@ use Rattle.flp_worker.specs.Parts.{proof_numbers}
 use Rattle.flp_batch.specs.Setting.{Setting}
 use Rattle.flp_verdict.specs.Text.{spelled, line_with}
 use Rattle.flp_explain.specs.Found.{weak_among, weak_in, encoding_in}
-use Rattle.flp_explain.specs.Text.{proof_line, joint_lines, whole_lines, lines_by_word, record_lines}
+use Rattle.flp_explain.specs.Text.{proof_line, joint_lines, lines_by_word, record_lines}
 
 -- what is found of the words of a record is found of the record
 pub weak-found : (program : Program) (shape : Shape) (bytes words : List ℕ) (proof : ℕ) (found : Option Weak) → words ≡ words_in shape bytes

@@ -6,7 +6,6 @@ use Rattle.flp_field.proofs.ListSums.{length-sum_of_lists, words-sum_of_lists}
 use Rattle.flp_syntax.specs.declared.syntax.Params.{Params}
 use Rattle.flp_syntax.specs.Tree.{Program}
 use Rattle.flp_meaning.specs.ProofLaws.{IsBounded}
-use Rattle.flp_circuits.specs.Sizes.{meas_len_of}
 use Rattle.flp_circuits.specs.Standard.{standard_program}
 use Rattle.flp_load.specs.Loaded.{IsLoaded}
 use Rattle.flp_load.proofs.StandardLemmas.{meas-standard}

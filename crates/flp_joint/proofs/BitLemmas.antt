@@ -6,7 +6,7 @@ use Rattle.std.proofs.Math.Seq.{take-append_seam, drop-append_seam, drop-cons}
 use Rattle.std.proofs.lemmas.Nat.{one_shl}
 use Rattle.std.proofs.lemmas.List.{get_or_read, length-take-le, take-append-drop}
 use Rattle.std.proofs.lemmas.List.Elements.{All-nil, All-cons, All-head, All-tail, All-take, All-drop, All-get_or}
-use Rattle.flp_circuits.specs.Bits.{bit_length, headroom, bits_of, IsBitLength}
+use Rattle.flp_circuits.specs.Bits.{bit_length, headroom, bits_of}
 use Rattle.flp_circuits.specs.Formulas.{word, sum_below}
 use Rattle.flp_circuits.specs.Laws.{BitLengthsAreLeast}
 use Rattle.flp_circuits.proofs.WordLemmas.{number-bits_of}

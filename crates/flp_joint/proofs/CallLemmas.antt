@@ -1,7 +1,7 @@
 -- The call of the range check that is named.
-use Rattle.std.proofs.Common.{ℕ, zero, suc, ◌+◌, ◌-◌, ◌*◌, ◌/◌, ◌%◌, ◌<◌, ◌≤◌, ◌≡◌, Bool, true, false, cond, ltb, Option, None, Some, List, length, get_or, position, sym, subst, ap, ◌∙◌, refl, ⊎_elim, arith}
+use Rattle.std.proofs.Common.{ℕ, suc, ◌+◌, ◌*◌, ◌/◌, ◌%◌, ◌<◌, ◌≤◌, ◌≡◌, Bool, true, false, cond, ltb, Option, None, Some, List, position, sym, subst, ap, ◌∙◌, refl, ⊎_elim, arith}
 use Rattle.std.specs.Option.{option_map, option_and_then, unwrap_or}
-use Rattle.std.proofs.Math.Nat.{div-add-mod', div-lt_iff_lt-mul, le-div_iff_mul-le, mod-lt}
+use Rattle.std.proofs.Math.Nat.{div-add-mod', div-lt_iff_lt-mul, mod-lt}
 use Rattle.std.proofs.lemmas.Bool.{ltb-true, ltb-false, cases_lt}
 use Rattle.std.proofs.lemmas.List.Quantifiers.{position-Some}
 use Rattle.flp_syntax.specs.declared.syntax.Params.{Params}
@@ -12,7 +12,7 @@ use Rattle.flp_circuits.proofs.Fitting.{fitting}
 use Rattle.flp_joint.specs.declared.caught.Caught.{Caught}
 use Rattle.flp_joint.specs.declared.caught.Caught.TheVariants.{Never, Word}
 use Rattle.flp_joint.specs.Caught.{are_zero, chunk_of, fixed_checks, least_call, caught_in}
-use Rattle.flp_joint.specs.Laws.{HasOther, IsLeastCall}
+use Rattle.flp_joint.specs.Laws.{IsLeastCall}
 use Rattle.flp_joint.proofs.CheckLemmas.{AllZero, all_zero}
 
 -- a word is named where the other checks pass, at the place of the first word that is no bit
@@ -44,6 +44,7 @@ named params x call bound e = by_chunk (chunk_of params) refl parts.1
   where
     parts : (are_zero (fixed_checks params x) ≡ true) × (option_and_then (λ chunk. least_call chunk x) (chunk_of params) ≡ Some (Word call bound))
     parts = named_parts (are_zero (fixed_checks params x)) (option_and_then (λ chunk. least_call chunk x) (chunk_of params)) call bound e
+
     by_place : (chunk : ℕ) → chunk_of params ≡ Some chunk → (o : Option ℕ) → position (λ w. ltb 1 w) x ≡ o → option_map (λ place. Word (place / chunk) chunk) o ≡ Some (Word call bound) → IsNamed params x call bound
     by_place chunk is None first f = cc
     by_place chunk is (Some place) first f =
@@ -55,6 +56,7 @@ named params x call bound e = by_chunk (chunk_of params) refl parts.1
           first = first;
           at = ap (λ (k : ℕ). place / k) (sym same) ∙ ap (λ (o : Option Caught). word_of (caught_or o)) f;
         }
+
     by_chunk : (o : Option ℕ) → chunk_of params ≡ o → option_and_then (λ chunk. least_call chunk x) o ≡ Some (Word call bound) → IsNamed params x call bound
     by_chunk None is f = cc
     by_chunk (Some chunk) is f = by_place chunk is (position (λ w. ltb 1 w) x) refl f
@@ -79,12 +81,12 @@ least_is chunk x place call some first at =
     record {
       some = (place % chunk, mod-lt place some, subst (λ (k : ℕ). 1 < word x k) (sym here) other);
       least = λ e h.
-      let before : place ≤ e * chunk + h.0 =
-      ⊎_elim
-      (λ (lt : e * chunk + h.0 < place). absurd (let small : word x (e * chunk + h.0) ≤ 1 = ltb-false 1 (word x (e * chunk + h.0)) (there.2 (e * chunk + h.0) lt) in omega (arith, h.2)))
-      (λ (ge : place ≤ e * chunk + h.0). ge)
-      (cases_lt (e * chunk + h.0) place) in
-      let top : place < suc e * chunk = omega (arith, h.1) in
-      let below : place / chunk < suc e = (div-lt_iff_lt-mul {k = chunk} {x = place} {y = suc e} some).1 top in
-      omega arith;
+          let before : place ≤ e * chunk + h.0 =
+          ⊎_elim
+          (λ (lt : e * chunk + h.0 < place). absurd (let small : word x (e * chunk + h.0) ≤ 1 = ltb-false 1 (word x (e * chunk + h.0)) (there.2 (e * chunk + h.0) lt) in omega (arith, h.2)))
+          (λ (ge : place ≤ e * chunk + h.0). ge)
+          (cases_lt (e * chunk + h.0) place) in
+          let top : place < suc e * chunk = omega (arith, h.1) in
+          let below : place / chunk < suc e = (div-lt_iff_lt-mul {k = chunk} {x = place} {y = suc e} some).1 top in
+          omega arith;
     }

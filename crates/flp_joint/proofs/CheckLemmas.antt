@@ -1,18 +1,16 @@
 -- Checks that are 0, and words that are bits.
-use Rattle.std.proofs.Common.{ℕ, zero, suc, ◌+◌, ◌-◌, ◌*◌, ◌/◌, ◌%◌, ◌^◌, ◌<◌, ◌≤◌, ◌≡◌, ◌↔◌, IsTrue, Bool, true, false, ◌&&◌, cond, eqb, ltb, Option, None, Some, List, [], ◌∷◌, ◌++◌, length, take, drop, map, All, sum, position, sym, subst, ap, ap₂, ◌∙◌, refl, length-drop, mul_assoc, ⊎_elim, arith}
-use Rattle.std.specs.List.{list_all, position_from, sum_by}
-use Rattle.std.proofs.lemmas.Bool.{eqb-true, eq-eqb, ltb-true, ltb-false, le-ltb, cases_lt, false≢true}
-use Rattle.std.proofs.lemmas.List.{length-take-le, take-append-drop}
+use Rattle.std.proofs.Common.{ℕ, zero, suc, ◌+◌, ◌*◌, ◌%◌, ◌^◌, ◌<◌, ◌≤◌, ◌≡◌, ◌↔◌, IsTrue, Bool, true, false, ◌&&◌, cond, eqb, ltb, Option, None, Some, List, [], ◌∷◌, ◌++◌, length, map, All, sum, position, sym, subst, ap, ◌∙◌, refl, mul_assoc, ⊎_elim, arith}
+use Rattle.std.specs.List.{position_from}
+use Rattle.std.proofs.lemmas.Bool.{eqb-true, eq-eqb, ltb-false, le-ltb, cases_lt, false≢true}
 use Rattle.std.proofs.lemmas.List.Elements.{All-nil, All-cons, All-head, All-tail}
-use Rattle.std.proofs.lemmas.List.Sums.{sum_by-cons}
 use Rattle.std.proofs.lemmas.Iterator.Adapters.{position_from-zero}
-use Rattle.flp_field.specs.Word.{modulus, IsWord, AreWords}
-use Rattle.flp_field.proofs.Congruence.{Same, same_cancel, same_eq, word_mod}
+use Rattle.flp_field.specs.Word.{modulus}
+use Rattle.flp_field.proofs.Congruence.{Same, same_cancel, same_eq}
 use Rattle.flp_field.proofs.Order.{no_zero_divisors}
 use Rattle.flp_poly.specs.Polynomial.{value_at}
 use Rattle.flp_poly.proofs.Horner.{horner, value_at-horner}
 use Rattle.flp_syntax.specs.Scope.{numbers_from}
-use Rattle.flp_circuits.specs.Formulas.{word, minus, sum_below, bit_check, number_at}
+use Rattle.flp_circuits.specs.Formulas.{word, minus, sum_below, number_at}
 use Rattle.flp_circuits.proofs.WordLemmas.{sum_by-on, sum_below-suc, sum_by-double, sum_words, word-left, word-right}
 use Rattle.flp_joint.specs.Decoding.{AreBits}
 use Rattle.flp_joint.specs.Caught.{are_zero}

@@ -1,8 +1,8 @@
 -- What a measurement that is not refused keeps to, and which words are encodings: circuit by circuit.
-use Rattle.std.proofs.Common.{ℕ, zero, suc, ◌+◌, ◌-◌, ◌*◌, ◌/◌, ◌^◌, ◌<◌, ◌≤◌, ◌≡◌, ◌↔◌, IsTrue, lit<, Bool, true, cond, eqb, ltb, leb, List, [], ◌∷◌, ◌++◌, length, take, drop, replicate, slice_set, sum, Option, None, Some, All, sym, subst, ap, ap₂, ◌∙◌, refl, length-drop, arith}
+use Rattle.std.proofs.Common.{ℕ, suc, ◌+◌, ◌-◌, ◌*◌, ◌/◌, ◌^◌, ◌<◌, ◌≤◌, ◌≡◌, ◌↔◌, IsTrue, lit<, Bool, cond, eqb, List, [], ◌∷◌, ◌++◌, length, take, drop, replicate, slice_set, sum, Option, None, Some, All, sym, subst, ap, ap₂, ◌∙◌, refl, length-drop, arith}
 use Rattle.std.specs.List.{flat_map}
 use Rattle.std.specs.Option.{option_or}
-use Rattle.std.proofs.lemmas.Bool.{lt-ltb, le-leb, leb-true, eq-eqb, eqb-true}
+use Rattle.std.proofs.lemmas.Bool.{lt-ltb, le-leb, eq-eqb, eqb-true}
 use Rattle.std.proofs.Math.Seq.{take-append_seam, take-add}
 use Rattle.std.proofs.Math.Nat.{mul-le-mul_right}
 use Rattle.std.proofs.lemmas.Grind.{flat_map-append}
@@ -21,8 +21,8 @@ use Rattle.flp_circuits.proofs.Encodings.{encodings_have_length}
 use Rattle.flp_circuits.proofs.Fitting.{fitting}
 use Rattle.flp_circuits.proofs.WordLemmas.{bits_of-bits, flat_map-bits}
 use Rattle.flp_joint.specs.Decoding.{AreBits, Encodes, IsEncoding}
-use Rattle.flp_joint.proofs.BitLemmas.{length-bits_of, bits_of_one, parts_same, headroom_is, numbers_same, NumbersIn, numbers_in}
-use Rattle.flp_joint.proofs.PlaceLemmas.{IsPlaceOfOne, one_place, find_one, place_same, weight-one_at}
+use Rattle.flp_joint.proofs.BitLemmas.{length-bits_of, bits_of_one, parts_same, headroom_is, numbers_same, numbers_in}
+use Rattle.flp_joint.proofs.PlaceLemmas.{one_place, find_one, place_same, weight-one_at}
 
 -- ---- what is taken
 

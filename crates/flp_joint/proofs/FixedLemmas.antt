@@ -1,5 +1,5 @@
 -- Which words pass the checks that no joint word enters.
-use Rattle.std.proofs.Common.{ℕ, zero, suc, ◌+◌, ◌-◌, ◌*◌, ◌/◌, ◌%◌, ◌^◌, ◌<◌, ◌≤◌, ◌≡◌, ◌↔◌, IsTrue, lit<, Bool, true, false, ◌&&◌, cond, eqb, ltb, Option, None, Some, IsNone, is_some, List, [], ◌∷◌, ◌++◌, length, take, drop, map, All, sum, position, sym, subst, ap, ap₂, ◌∙◌, refl, length-drop, ⊎_elim, arith}
+use Rattle.std.proofs.Common.{ℕ, suc, ◌+◌, ◌-◌, ◌*◌, ◌/◌, ◌%◌, ◌^◌, ◌<◌, ◌≤◌, ◌≡◌, ◌↔◌, IsTrue, lit<, Bool, true, false, cond, eqb, ltb, Option, None, Some, IsNone, is_some, List, [], ◌∷◌, ◌++◌, length, take, drop, map, sum, position, sym, subst, ap, ap₂, ◌∙◌, refl, length-drop, ⊎_elim, arith}
 use Rattle.std.specs.Option.{option_map, option_and_then}
 use Rattle.std.proofs.Math.Nat.{pow-le-pow_right, pow-succ'}
 use Rattle.std.proofs.lemmas.Bool.{eqb-true, eq-eqb, cases_lt, false≢true}
@@ -13,7 +13,7 @@ use Rattle.flp_syntax.specs.Scope.{numbers_from}
 use Rattle.flp_circuits.specs.Bits.{bit_length, headroom, bits_of}
 use Rattle.flp_circuits.specs.Laws.{BitLengthsAreLeast}
 use Rattle.flp_circuits.specs.Sizes.{Fits, meas_len_of}
-use Rattle.flp_circuits.specs.Encoding.{encoding_of, weight_of}
+use Rattle.flp_circuits.specs.Encoding.{weight_of}
 use Rattle.flp_circuits.specs.Formulas.{word, minus, sum_below, bit_check, number_at, formula_of}
 use Rattle.flp_circuits.proofs.EncodingLemmas.{taken, weight_of-bits}
 use Rattle.flp_circuits.proofs.Encodings.{formulas_zero}
@@ -23,7 +23,7 @@ use Rattle.flp_joint.specs.Decoding.{AreBits, IsEncoding}
 use Rattle.flp_joint.specs.declared.caught.Caught.{Caught}
 use Rattle.flp_joint.specs.declared.caught.Caught.TheVariants.{Never, Word}
 use Rattle.flp_joint.specs.Caught.{are_zero, chunk_of, range_checks, fixed_checks, least_call, caught_in}
-use Rattle.flp_joint.proofs.BitLemmas.{length-bits_of, number_in, length_limit, headroom_is, headroom_small, two_limit}
+use Rattle.flp_joint.proofs.BitLemmas.{number_in, length_limit, headroom_is, headroom_small, two_limit}
 use Rattle.flp_joint.proofs.PlaceLemmas.{weight-le-length}
 use Rattle.flp_joint.proofs.EncodingLemmas.{encoding-bits, count_is, sum_iff, sum_vec_is, histogram_iff, multihot_iff, sum_limit, weight_limit}
 use Rattle.flp_joint.proofs.CheckLemmas.{AllZero, all_zero, zero_all, tests_same, balance, balanced, bit_from_check, bits_of_words, zero_each, bits_from_none, none_from_bits, sum_front, number_behind}

@@ -1,6 +1,6 @@
 -- What joint words let pass.
-use Rattle.std.proofs.Common.{ℕ, zero, suc, ◌+◌, ◌-◌, ◌*◌, ◌/◌, ◌%◌, ◌^◌, ◌<◌, ◌≤◌, ◌≡◌, ◌≢◌, Bool, true, false, cond, ltb, Option, None, Some, List, [], ◌∷◌, length, slice_set, All, AllPairs, position, sym, subst, ap, ◌∙◌, refl, lit<, ⊎_elim, arith}
-use Rattle.std.specs.Option.{option_map, option_and_then, unwrap_or}
+use Rattle.std.proofs.Common.{ℕ, suc, ◌+◌, ◌-◌, ◌*◌, ◌/◌, ◌%◌, ◌^◌, ◌<◌, ◌≤◌, ◌≡◌, Bool, true, false, cond, ltb, Option, None, Some, List, ◌∷◌, length, slice_set, All, position, sym, subst, ap, ◌∙◌, refl, ⊎_elim, arith}
+use Rattle.std.specs.Option.{option_map, option_and_then}
 use Rattle.std.proofs.Math.Nat.{div-mul-le_self, le-div_iff_mul-le}
 use Rattle.std.proofs.lemmas.Bool.{cases_lt, false≢true}
 use Rattle.std.proofs.lemmas.List.{get_or_past}
@@ -8,11 +8,11 @@ use Rattle.std.proofs.lemmas.List.Quantifiers.{position-Some}
 use Rattle.std.proofs.lemmas.List.Elements.{All-nil, All-cons, All-head, All-tail, All-weaker}
 use Rattle.flp_count.specs.Count.{AtMost, PassEach}
 use Rattle.flp_count.proofs.ChoiceLemmas.{choices_are_few, product_of-same}
-use Rattle.flp_field.specs.Word.{modulus, IsWord, AreWords}
+use Rattle.flp_field.specs.Word.{modulus, AreWords}
 use Rattle.flp_syntax.specs.declared.syntax.Params.{Params}
 use Rattle.flp_syntax.specs.declared.syntax.Params.TheVariants.{Count, Sum, SumVec, Histogram, Multihot}
 use Rattle.flp_meaning.specs.Circuit.{IsValid}
-use Rattle.flp_circuits.specs.Formulas.{word, formula_of, range_formula, range_sum}
+use Rattle.flp_circuits.specs.Formulas.{word, formula_of, range_formula}
 use Rattle.flp_circuits.specs.Laws.{BitLengthsAreLeast, ChecksAreFormulas}
 use Rattle.flp_circuits.specs.Sizes.{Fits, meas_len_of, quotient_up}
 use Rattle.flp_circuits.specs.Standard.{standard_program}
@@ -58,6 +58,7 @@ no_never params x = by_chunk (chunk_of params)
     by_place : (chunk : ℕ) (o : Option ℕ) → option_map (λ place. Word (place / chunk) chunk) o ≡ Some Never → ⊥
     by_place chunk None e = cc
     by_place chunk (Some place) e = cc
+
     by_chunk : (o : Option ℕ) → option_and_then (λ chunk. least_call chunk x) o ≡ Some Never → ⊥
     by_chunk None e = cc
     by_chunk (Some chunk) e = by_place chunk (position (λ w. ltb 1 w) x) e

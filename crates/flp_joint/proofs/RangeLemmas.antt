@@ -1,5 +1,5 @@
 -- The range check as a polynomial in one joint word.
-use Rattle.std.proofs.Common.{ℕ, zero, suc, ◌+◌, ◌-◌, ◌*◌, ◌/◌, ◌%◌, ◌^◌, ◌<◌, ◌≤◌, ◌≡◌, ◌≢◌, List, [], ◌∷◌, length, map, slice_set, All, AllPairs, sym, subst, ap, ap₂, ◌∙◌, refl, ⊎_elim, get_or-set_same, get_or-set_other, arith}
+use Rattle.std.proofs.Common.{ℕ, zero, suc, ◌+◌, ◌*◌, ◌%◌, ◌^◌, ◌<◌, ◌≤◌, ◌≡◌, ◌≢◌, List, [], ◌∷◌, length, map, slice_set, All, AllPairs, sym, ap, ap₂, ◌∙◌, refl, ⊎_elim, get_or-set_same, get_or-set_other, arith}
 use Rattle.std.specs.List.{sum_by}
 use Rattle.std.proofs.Math.Nat.{pow-succ', pow-zero}
 use Rattle.std.proofs.lemmas.Bool.{cases_lt}
@@ -9,8 +9,7 @@ use Rattle.std.proofs.lemmas.List.Sums.{sum_by-cons}
 use Rattle.flp_field.specs.Word.{modulus, IsWord, AreWords}
 use Rattle.flp_field.proofs.Congruence.{Same, same_add, same_mul, same_mod, same_eq, mod_word}
 use Rattle.flp_field.proofs.Order.{no_zero_divisors}
-use Rattle.flp_poly.specs.Polynomial.{value_at, HasDegreeAtMost}
-use Rattle.flp_poly.specs.PolynomialLaws.{IsRoot}
+use Rattle.flp_poly.specs.Polynomial.{value_at}
 use Rattle.flp_poly.proofs.Horner.{horner, value_at-horner}
 use Rattle.flp_poly.proofs.Vanishing.{root_count}
 use Rattle.flp_syntax.specs.Scope.{numbers_from}

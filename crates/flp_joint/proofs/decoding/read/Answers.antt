@@ -1,6 +1,6 @@
 use Rattle.std.proofs.Common.{◌<◌, ◌/◌, ℕ, length, sym, ap, ◌∙◌, ◌*◌}
 use Rattle.std.proofs.lemmas.List.Elements.{All-take}
-use Rattle.flp_syntax.specs.declared.syntax.Params.TheVariants.{Sum, SumVec, Histogram}
+use Rattle.flp_syntax.specs.declared.syntax.Params.TheVariants.{Sum, SumVec}
 use Rattle.flp_joint.proofs.BitLemmas.{length_limit}
 use Rattle.flp_joint.proofs.EncodingLemmas.{encoding-bits, encoding-length, sum_limit, half-few, sum_answer, sum_vec_encodes, histogram_answer}
 use Rattle.flp_joint.proofs.decoding.read.Goals as goal

@@ -1,4 +1,4 @@
-use Rattle.std.proofs.Common.{ℕ, ◌≡◌, ◌*◌, ◌∙◌, length, sym, ap, arith}
+use Rattle.std.proofs.Common.{ℕ, ◌≡◌, ◌*◌, ◌∙◌, length, ap, arith}
 use Rattle.flp_joint.proofs.EncodingLemmas.{numbers_more}
 use Rattle.flp_joint.proofs.decoding.read_numbers.Goals as goal
 

@@ -1,4 +1,4 @@
-use Rattle.std.proofs.Common.{◌≡◌, ◌*◌, ◌^◌, ◌<◌, All, length, take}
+use Rattle.std.proofs.Common.{◌≡◌, ◌*◌, ◌^◌, ◌<◌, All, take}
 use Rattle.std.specs.List.{flat_map}
 use Rattle.flp_circuits.specs.Bits.{bits_of}
 use Rattle.flp_joint.proofs.decoding.read_numbers.Given as goal

@@ -1,4 +1,4 @@
-use Rattle.std.proofs.Common.{◌≡◌, Bool, true, false, sym, ◌∙◌}
+use Rattle.std.proofs.Common.{sym, ◌∙◌}
 use Rattle.std.proofs.lemmas.Bool.{false≢true}
 use Rattle.flp_joint.proofs.EncodingLemmas.{encoding-bits}
 use Rattle.flp_joint.proofs.encoded.is_encoding.Goals as goal
