@@ -13,7 +13,7 @@ use Rattle.flp_meaning.specs.Gadgets.{gadgets_of, arity_of}
 use Rattle.flp_meaning.specs.Lengths.{start_of, verifier_part}
 use Rattle.flp_meaning.specs.Wires.{wires_of}
 use Rattle.flp_meaning.specs.Proof.{words_at, seeds_for, polynomial_in, honest_proof, with_proof}
-use Rattle.flp_meaning.specs.Verifier.{point_of, gadget_in_domain, check_of, verifier_of, verifier_words}
+use Rattle.flp_meaning.specs.Verifier.{point_of, gadget_in_domain, check_of, verifier_of}
 use Rattle.flp_meaning.specs.ProofLaws.{IsBounded, AreSeeds, Holds}
 use Rattle.flp_meaning.proofs.Honest.{honest_proof_has_parts, honest_proof_proves}
 use Rattle.flp_meaning.proofs.Decisions.{decisions_mean}
@@ -71,12 +71,10 @@ read-part body x joint seeds query g bounded good inside =
     ∙ take_all n here (omega arith)
 
 -- and so those of all gadgets
-pub read-wires : (body : Program) (x joint seeds query proof verifier out : List ℕ) (unit : ℕ) → IsBounded body → AreSeeds body seeds
-    → proof ≡ honest_proof body x joint seeds → unit ≡ 1 → verifier ≡ verifier_words body x joint proof query unit
+pub read-wires : (body : Program) (x joint seeds query verifier out : List ℕ) → IsBounded body → AreSeeds body seeds
+    → verifier ≡ honest_verifier body x joint seeds query
     → out ≡ flat_map (wires_of_verifier body verifier) (gadgets_of body) → out ≡ all_wires_at body x joint seeds query
-read-wires body x joint seeds query proof verifier out unit bounded good honest one whole own =
-    let same : verifier ≡ honest_verifier body x joint seeds query =
-    whole ∙ ap₂ (λ (p : List ℕ) (u : ℕ). verifier_words body x joint p query u) honest one in
+read-wires body x joint seeds query verifier out bounded good same own =
     own ∙ ap (λ (v : List ℕ). flat_map (wires_of_verifier body v) (gadgets_of body)) same
     ∙ flat-same (wires_of_verifier body (honest_verifier body x joint seeds query)) (wires_at body x joint seeds query) 0 (length body.gadgets)
     (λ g below. read-part body x joint seeds query g bounded good (omega arith))

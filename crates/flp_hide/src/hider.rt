@@ -11,7 +11,7 @@ use crate::laws::verifiers;
 use crate::reader::WireReader;
 use crate::seeds::write_seeds;
 use flp_field::{Fe, laws as words_of};
-use flp_plan::Plan;
+use flp_plan::{Plan, laws};
 use flp_query::InDomain;
 use flp_query::answers::MOST_POINTS;
 use std::alloc::Global;
@@ -39,9 +39,9 @@ impl Model for Hider {
 
     ghost Value = { Sizes };
 
-    ghost view = { λ hider. hider.reader };
+    ghost view = { λ hider. hider.reader.sizes };
 
-    ghost invariant = { λ hider. HoldsWires hider.reader (vec_len hider.low) (vec_len hider.high) (vec_len hider.weights) };
+    ghost invariant = { λ hider. HoldsWires hider.reader.sizes (vec_len hider.low) (vec_len hider.high) (vec_len hider.weights) };
 }
 
 impl Hider {
@@ -90,7 +90,10 @@ impl Hider {
         ensures unchanged { OnErr result (out.new ≡ out.old) }
         ensures again { self.new ≡ self.old }
     {
-        self.reader.read(plan, x, joint, seeds, words, out)?;
+        words_of::words(seeds);
+        laws::is_bounded(plan);
+        self.reader.make(plan, x, joint, seeds, words)?;
+        self.reader.write_wires(plan, out);
         Ok(())
     }
 
@@ -126,12 +129,16 @@ impl Hider {
         ensures again { self.new ≡ self.old }
     {
         words_of::words(seeds);
+        laws::is_bounded(plan);
         verifiers(plan);
         let low: &mut [Fe] = &mut self.low;
         let high: &mut [Fe] = &mut self.high;
-        self.reader.read(plan, from, joint, seeds, words, high)?;
+        self.reader.make(plan, from, joint, seeds, words)?;
+        self.reader.write_wires(plan, high);
         out.fill(Fe::ZERO);
-        self.reader.read(plan, to, joint, out, words, low)?;
+        words_of::words(out);
+        self.reader.make(plan, to, joint, out, words)?;
+        self.reader.write_wires(plan, low);
         write_seeds(plan, words, low, high, &mut self.weights, out);
         Ok(())
     }

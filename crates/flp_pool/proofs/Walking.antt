@@ -1,5 +1,5 @@
 -- A walk, one turn at a time.
-use Rattle.std.proofs.Common.{◌≡◌, ℕ, ◌+◌, ◌-◌, ◌≤◌, ◌≢◌, Option, List, [], ◌∷◌, ◌++◌, sym, refl, ap, ◌∙◌, subst, arith, append_assoc, append-nil, length-append}
+use Rattle.std.proofs.Common.{◌≡◌, ℕ, ◌+◌, ◌-◌, ◌≤◌, ◌≢◌, ◌⊎◌, inl, inr, Option, List, [], ◌∷◌, ◌++◌, sym, refl, ap, ◌∙◌, subst, arith, append_assoc, append-nil, length-append}
 use mathlib.Core.Logic.{dite}
 use native.Mathlib.Decide.{ℕ_discrete}
 use Rattle.flp_tally.specs.declared.view.View.{View}
@@ -80,7 +80,7 @@ module _ {S : Type 0} (room : S → ℕ) (done : S → List ℕ) (right : S → 
   }
 
   -- a look that found a number free, and what came after it
-  pub walks_missed : (a b n : ℕ) (v u w : View) (s t : S) → u ≡ with_missed v n → Walks room done right row_of a b u w s t → Walks room done right row_of a b v w s t
+  walks_missed : (a b n : ℕ) (v u w : View) (s t : S) → u ≡ with_missed v n → Walks room done right row_of a b u w s t → Walks room done right row_of a b v w s t
   walks_missed a b n v u w s t look walk = let p = subst (λ (z : View). Walks room done right row_of a b z w s t) look walk in record {
     claimed = p.claimed;
     seen = p.seen;
@@ -91,3 +91,8 @@ module _ {S : Type 0} (room : S → ℕ) (done : S → List ℕ) (right : S → 
     alone = p.alone;
     view = p.view ∙ with_run-missed row_of v n p.claimed p.seen p.missed;
   }
+
+  -- so where there was a look or none
+  pub walks_looked : (a b n : ℕ) (v u w : View) (s t : S) → (u ≡ v) ⊎ (u ≡ with_missed v n) → Walks room done right row_of a b u w s t → Walks room done right row_of a b v w s t
+  walks_looked a b n v u w s t (inl same) walk = subst (λ (z : View). Walks room done right row_of a b z w s t) same walk
+  walks_looked a b n v u w s t (inr look) walk = walks_missed a b n v u w s t look walk

@@ -1,6 +1,7 @@
 //! One worker: its walk over the range, and one turn of it.
-ghost use Rattle.std.specs.Prelude.{◌≡◌, ◌+◌, ◌-◌, ◌<◌, ◌≤◌, ℕ};
+ghost use Rattle.std.specs.Prelude.{◌≡◌, ◌≢◌, ◌⊎◌, ◌+◌, ◌-◌, ◌<◌, ◌≤◌, ℕ, IsTrue, IsFalse};
 ghost use Rattle.flp_tally.specs.Held.{IsSeatOf};
+ghost use Rattle.flp_tally.specs.Views.{times, with_seen, with_missed};
 ghost use Rattle.flp_pool.specs.Range.{HasRange};
 ghost use Rattle.flp_pool.specs.Walk.{Walks};
 
@@ -25,17 +26,18 @@ pub(crate) fn walk_round<W: Work>(
     ensures walk { Walks W.room W.done (W.right work.now) (W.row_of work.now) span.lo span.hi seat.old.view seat.new.view state.old state.new }
 {
     let (start, end) = part_of(span, worker);
-    walk_own(work, tally, start, end, seat, state);
-    walk_begun(work, tally, end, span.hi, seat, state);
-    walk_begun(work, tally, span.lo, start, seat, state);
+    walk_part(work, tally, start, end, false, seat, state);
+    walk_part(work, tally, end, span.hi, true, seat, state);
+    walk_part(work, tally, span.lo, start, true, seat, state);
 }
 
-/// Walks a part that no other worker begins with.
-fn walk_own<W: Work>(
+/// Walks a part. Where others began with it, most of its numbers are claimed by now.
+fn walk_part<W: Work>(
     work: &W,
     tally: &Tally,
     lo: u32,
     hi: u32,
+    begun: bool,
     seat: &mut Seat,
     state: &mut W::State,
 )
@@ -47,45 +49,26 @@ fn walk_own<W: Work>(
     ensures walk { Walks W.room W.done (W.right work.now) (W.row_of work.now) lo hi seat.old.view seat.new.view state.old state.new }
 {
     for number in lo..hi {
-        turn(work, tally, number, seat, state);
+        if !is_passed(tally, number, begun, seat) {
+            turn(work, tally, number, seat, state);
+        }
     }
 }
 
-/// Walks a part that others began, in which most numbers are claimed by now.
-fn walk_begun<W: Work>(
-    work: &W,
-    tally: &Tally,
-    lo: u32,
-    hi: u32,
-    seat: &mut Seat,
-    state: &mut W::State,
-)
-    requires range { (lo ≤ hi) × (hi ≤ tally.now.reports) }
-    requires numbers { HasRange (W.takes work.now) (W.row_of work.now) tally.now.elements lo hi }
-    requires state { W.right work.now state.old × (hi - lo ≤ W.room state.old) }
-    requires seat { IsSeatOf tally.now seat.old }
-    ensures seat { IsSeatOf tally.now seat.new }
-    ensures walk { Walks W.room W.done (W.right work.now) (W.row_of work.now) lo hi seat.old.view seat.new.view state.old state.new }
-{
-    for number in lo..hi {
-        look_first(work, tally, number, seat, state);
-    }
-}
-
-/// A turn that claims a number only where a look finds it free: a look leaves the word to all who look, and a claim takes
-/// it from them.
-fn look_first<W: Work>(work: &W, tally: &Tally, number: u32, seat: &mut Seat, state: &mut W::State)
+/// Whether the number is seen to be claimed. Only in a part that others began is it looked at: a look leaves the word to
+/// all who look, and a claim takes it from them.
+fn is_passed(tally: &Tally, number: u32, begun: bool, seat: &mut Seat) -> bool
     requires range { number < tally.now.reports }
-    requires numbers { HasRange (W.takes work.now) (W.row_of work.now) tally.now.elements number (number + 1) }
-    requires state { W.right work.now state.old × (1 ≤ W.room state.old) }
     requires seat { IsSeatOf tally.now seat.old }
     ensures seat { IsSeatOf tally.now seat.new }
-    ensures walk { Walks W.room W.done (W.right work.now) (W.row_of work.now) number (number + 1) seat.old.view seat.new.view state.old state.new }
+    ensures claimed { IsTrue result → seat.new.view ≡ with_seen seat.old.view number }
+    ensures alone { IsTrue result → seat.old.view.weight ≡ seat.old.view.full → times number seat.old.view.claimed ≢ 0 }
+    ensures free { IsFalse result → (seat.new.view ≡ seat.old.view) ⊎ (seat.new.view ≡ with_missed seat.old.view number) }
 {
-    if tally.peek(seat, number) {
-        return;
+    if !begun {
+        return false;
     }
-    turn(work, tally, number, seat, state);
+    tally.peek(seat, number)
 }
 
 /// Claims a number, and where it was free does its item and adds the row that it brings.

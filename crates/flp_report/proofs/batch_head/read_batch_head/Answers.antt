@@ -1,12 +1,12 @@
-use Rattle.std.proofs.Common.{◌≡◌, ◌+◌, ◌-◌, ◌≤◌, ℕ, ◌++◌, Some, Err, inl, inr, refl, ap, subst, ◌∙◌, arith, append_assoc, length-append}
+use Rattle.std.proofs.Common.{◌≡◌, ◌+◌, ◌-◌, ◌≤◌, ℕ, List, ◌++◌, Option, None, Some, Err, length, inl, inr, refl, ap, subst, ◌∙◌, arith, append_assoc, length-append}
 use Rattle.std.specs.Prelude.{IfSome}
 use Rattle.std.specs.Io.KnownBytes.{Consumes}
 use Rattle.std.proofs.KnownBytes.{Consumes-trans}
 use Rattle.flp_io.specs.Reads.{ConsumesAtMost}
 use Rattle.flp_io.proofs.ReadLemmas.{ReadsFrom-after, ReadsFrom-as}
 use Rattle.flp_report.specs.declared.fault.ReadFault.TheVariants as read
-use Rattle.flp_report.specs.Head.{number_at}
-use Rattle.flp_report.specs.Batch.{head_size, buckets_fault, IsBucketsPart, batch_head_fault, batch_head_takes, IsBatchHeadFault}
+use Rattle.flp_report.specs.Head.{number_at, numbers_fault}
+use Rattle.flp_report.specs.Batch.{batch_letters, head_size, buckets_fault, IsBucketsPart, batch_head_fault, batch_head_takes, IsBatchHeadFault}
 use Rattle.flp_report.specs.Reads.{ConsumesWithin, EndedShort}
 use Rattle.flp_report.proofs.FaultLemmas.{first_of-two}
 use Rattle.flp_report.proofs.KnownLemmas.{IfSome-map, IfBatch-map, IfSome-before, EndedShort-known}
@@ -14,6 +14,13 @@ use Rattle.flp_report.proofs.ReadsLemmas.{ConsumesWithin-all, ConsumesWithin-fro
 use Rattle.flp_report.proofs.HeadLemmas.{text-cut}
 use Rattle.flp_report.proofs.BatchHeadLemmas.{head_least, head-buckets, head-text, takes-least, takes-buckets, takes-text, IsHead-read, IsInLimits-read}
 use Rattle.flp_report.proofs.batch_head.read_batch_head.Goals as goal
+
+-- the text ends where the head says how far it is read
+fits-text : (newest : ℕ) (party : Option ℕ) (start part : List ℕ) (n buckets : ℕ) → length start ≡ 32 → numbers_fault batch_letters newest party start ≡ None
+    → IsBucketsPart (number_at 8 start) part buckets → n ≡ number_at 20 start → (rest : List ℕ) → length (start ++ part) + n ≤ batch_head_takes newest party ((start ++ part) ++ rest)
+fits-text newest party start part n buckets long none own is = λ rest.
+    let reach = ap (batch_head_takes newest party) (append_assoc start part rest) ∙ takes-text newest party start part rest buckets long none own in
+    omega (arith, reach, own.size, length-append start part, long, is)
 
 pub returns-in-Err-clause-fault : goal.returns-in-Err-clause-fault
 returns-in-Err-clause-fault g c =
@@ -89,15 +96,12 @@ pub returns-in-Err-read_growing-clause-source : goal.returns-in-Err-read_growing
 returns-in-Err-read_growing-clause-source g c =
     let start = c.read_start.new.head in
     let (part, is, gone) = c.in-Ok-read_buckets.ensures.bytes in
-    let v = c.number_at-version.ensures in
-    let own = subst (λ (n : ℕ). IsBucketsPart n part c.in-Ok-read_buckets.buckets) v is in
-    let takes = batch_head_takes c.args.newest c.args.party in
+    let own = subst (λ (n : ℕ). IsBucketsPart n part c.in-Ok-read_buckets.buckets) c.number_at-version.ensures is in
     let both : Consumes (g.S.Source.left c.args.source.now) (g.S.Source.left c.read_buckets.new.source) (start ++ part) = Consumes-trans _ _ _ start part c.in-Ok.ensures.bytes gone in
-    ReadsFrom-after (ConsumesWithin takes) (ReadsFrom-after (λ old new. Consumes old new (start ++ part)) c.in-Ok.ensures.source c.in-Ok-read_buckets.ensures.source (λ first second. both))
+    ReadsFrom-after (ConsumesWithin (batch_head_takes c.args.newest c.args.party)) (ReadsFrom-after (λ old new. Consumes old new (start ++ part)) c.in-Ok.ensures.source c.in-Ok-read_buckets.ensures.source (λ first second. both))
     (ReadsFrom-as {takes' = ConsumesAtMost c.number_at-length.result} c.in-Err-read_growing.ensures.source (λ few. few) (λ is. let same : c.in-Err-read_growing.fault ≡ read.Failed = cc in ap Err same) (λ ok. ok))
-    (λ first few. ConsumesWithin-front takes _ _ _ (start ++ part) c.number_at-length.result both few (λ rest.
-    let reach = ap takes (append_assoc start part rest) ∙ takes-text c.args.newest c.args.party start part rest c.in-Ok-read_buckets.buckets c.read_start.auto.head c.in-Ok.ensures.none own in
-    omega (arith, reach, own.size, length-append start part, c.read_start.auto.head, c.number_at-length.ensures)))
+    (λ first few. ConsumesWithin-front (batch_head_takes c.args.newest c.args.party) _ _ _ (start ++ part) c.number_at-length.result both few
+    (fits-text c.args.newest c.args.party start part c.number_at-length.result c.in-Ok-read_buckets.buckets c.read_start.auto.head c.in-Ok.ensures.none own c.number_at-length.ensures))
 
 pub returns-clause-bytes : goal.returns-clause-bytes
 returns-clause-bytes g c =
@@ -123,12 +127,9 @@ pub returns-clause-source : goal.returns-clause-source
 returns-clause-source g c =
     let start = c.read_start.new.head in
     let (part, is, gone) = c.in-Ok-read_buckets.ensures.bytes in
-    let v = c.number_at-version.ensures in
-    let own = subst (λ (n : ℕ). IsBucketsPart n part c.in-Ok-read_buckets.buckets) v is in
-    let takes = batch_head_takes c.args.newest c.args.party in
+    let own = subst (λ (n : ℕ). IsBucketsPart n part c.in-Ok-read_buckets.buckets) c.number_at-version.ensures is in
     let both : Consumes (g.S.Source.left c.args.source.now) (g.S.Source.left c.read_buckets.new.source) (start ++ part) = Consumes-trans _ _ _ start part c.in-Ok.ensures.bytes gone in
-    ReadsFrom-after (ConsumesWithin takes) (ReadsFrom-after (λ old new. Consumes old new (start ++ part)) c.in-Ok.ensures.source c.in-Ok-read_buckets.ensures.source (λ first second. both))
+    ReadsFrom-after (ConsumesWithin (batch_head_takes c.args.newest c.args.party)) (ReadsFrom-after (λ old new. Consumes old new (start ++ part)) c.in-Ok.ensures.source c.in-Ok-read_buckets.ensures.source (λ first second. both))
     (ReadsFrom-as {takes' = ConsumesAtMost c.number_at-length.result} c.in-Ok-read_growing.ensures.source (λ few. few) (λ is. let no : ⊥ = cc in absurd no) (λ ok. refl))
-    (λ first few. ConsumesWithin-front takes _ _ _ (start ++ part) c.number_at-length.result both few (λ rest.
-    let reach = ap takes (append_assoc start part rest) ∙ takes-text c.args.newest c.args.party start part rest c.in-Ok-read_buckets.buckets c.read_start.auto.head c.in-Ok.ensures.none own in
-    omega (arith, reach, own.size, length-append start part, c.read_start.auto.head, c.number_at-length.ensures)))
+    (λ first few. ConsumesWithin-front (batch_head_takes c.args.newest c.args.party) _ _ _ (start ++ part) c.number_at-length.result both few
+    (fits-text c.args.newest c.args.party start part c.number_at-length.result c.in-Ok-read_buckets.buckets c.read_start.auto.head c.in-Ok.ensures.none own c.number_at-length.ensures))

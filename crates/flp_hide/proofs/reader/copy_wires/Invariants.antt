@@ -3,7 +3,7 @@ use Rattle.std.specs.List.{range_with_len, flat_map}
 use Rattle.flp_meaning.specs.Gadgets.{arity_of}
 use Rattle.flp_meaning.specs.Lengths.{start_of, verifier_part}
 use Rattle.flp_hide.specs.Wires.{wires_of_verifier}
-use Rattle.flp_hide.proofs.reader.write_wires.Given as goal
+use Rattle.flp_hide.proofs.reader.copy_wires.Given as goal
 
 abbrev pub invariant-loop-gadget : goal.invariant-loop-gadget
 invariant-loop-gadget l = record {

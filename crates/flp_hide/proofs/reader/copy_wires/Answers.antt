@@ -6,7 +6,7 @@ use Rattle.flp_meaning.proofs.StartLemmas.{start-more, start-inside, flat-more}
 use Rattle.flp_plan.proofs.FormLemmas.{range_length}
 use Rattle.flp_prove.proofs.JoinedLemmas.{part-written}
 use Rattle.flp_hide.specs.Wires.{wires_of_verifier}
-use Rattle.flp_hide.proofs.reader.write_wires.Goals as goal
+use Rattle.flp_hide.proofs.reader.copy_wires.Goals as goal
 
 pub loop-gadget-preserved : goal.loop-gadget-preserved
 loop-gadget-preserved c =
