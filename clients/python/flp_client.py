@@ -2,21 +2,26 @@
 """A client of flp in plain Python 3: makes job files of measurements, and reads what flp prints.
 
     flp_client.py jobs CIRCUIT [--shares S] [--proofs K] [--lengths TEXT] < measurements.csv > measurements.job
-    flp_client.py split BATCH PREFIX --parts N [--lengths TEXT]
-    flp_client.py add TEXT ..
-    flp_client.py chart TEXT [--title WORDS] > chart.svg
+    flp_client.py split PREFIX BATCH .. --parts N [--lengths TEXT]
+    flp_client.py add TEXT .. [--min M] [--ending]
+    flp_client.py verdicts TEXT
+    flp_client.py chart TEXT [--title WORDS] [--names A,B,..] > chart.svg
 
 `jobs` takes a row of numbers for each report, its measurement, or of another circuit than the standard ones the words
 of its encoding, and draws nonces, shares and seeds from the system's randomness. CIRCUIT is a file with the circuit's
-text. `split` puts the records of a batch
-into N batches by their nonces, so that equal nonces and their old claims meet in one of them. `add` makes one text
-of the counts and aggregates that `flp verify` printed of such parts. `chart` draws an aggregate.
+text. `split` puts the records of batches, one behind the other, into N batches by their nonces, PREFIX0.batch and so
+on, so that equal nonces and their old claims meet in one of them. `add` makes one text of what `flp verify` printed of
+such parts, without the verdicts where --ending is given, and withholds the aggregate of fewer than M reports.
+`verdicts` counts the verdicts of a text by kind, and `chart` draws its aggregate as bars.
 
 The lengths of a standard circuit are worked out here; for another circuit, TEXT is what `flp lengths` printed.
 """
 import argparse
+import collections
+import contextlib
 import csv
 import dataclasses
+import html
 import re
 import secrets
 import struct
@@ -101,22 +106,20 @@ def lengths_for(text, printed):
 # ---- random words
 
 
-def word():
-    """A word of the field: a draw of p or more is drawn again, never reduced."""
-    while True:
-        drawn = secrets.randbits(64)
-        if drawn < P:
-            return drawn
-
-
 def words(count):
-    return [word() for _ in range(count)]
+    """So many words of the field: a draw of p or more is drawn again, never reduced."""
+    drawn = list(struct.unpack(f"<{count}Q", secrets.token_bytes(8 * count)))
+    for place, word in enumerate(drawn):
+        while word >= P:
+            word = secrets.randbits(64)
+        drawn[place] = word
+    return drawn
 
 
 def point(size):
     """A query point outside the domain of this size; inside it, a wire would show an input."""
     while True:
-        drawn = word()
+        [drawn] = words(1)
         if pow(drawn, size, P) != 1:
             return drawn
 
@@ -158,105 +161,234 @@ def job_file(text, lengths, shares, proofs, rows):
 # ---- batches
 
 
-def split(batch, parts, printed=None):
-    """The batches of the records and old claims whose nonce falls to each part."""
-    if batch[:8] != b"FLPBATCH":
-        raise ValueError("no batch")
-    version, shares, proofs, length, claims, reports = struct.unpack_from("<6I", batch, 8)
-    if version != 1:
-        raise ValueError(f"version {version}")
-    text = batch[32 : 32 + length]
-    lengths = lengths_for(text.decode("ascii"), printed)
-    size = 16 + 8 * lengths.record_words(shares, proofs)
-    start = 32 + length + 16 * claims
-    if len(batch) != start + reports * size:
-        raise ValueError(f"{len(batch)} bytes, and {start + reports * size} are due")
-    olds = [batch[at : at + 16] for at in range(32 + length, start, 16)]
-    records = [batch[at : at + size] for at in range(start, len(batch), size)]
-    made = []
-    for part in range(parts):
-        mine = [old for old in olds if part_of(old, parts) == part]
-        here = [record for record in records if part_of(record, parts) == part]
-        head = b"FLPBATCH" + struct.pack("<6I", version, shares, proofs, length, len(mine), len(here))
-        made.append(head + text + b"".join(mine) + b"".join(here))
-    return made
+@dataclasses.dataclass(frozen=True)
+class Front:
+    """What stands in front of a batch's records."""
+
+    shares: int
+    proofs: int
+    text: bytes
+    claims: list
+    reports: int
+
+    def packed(self):
+        head = struct.pack("<6I", 1, self.shares, self.proofs, len(self.text), len(self.claims), self.reports)
+        return b"FLPBATCH" + head + self.text + b"".join(self.claims)
+
+    def record_size(self, printed=None):
+        """The bytes of a record."""
+        return 16 + 8 * lengths_for(self.text.decode("ascii"), printed).record_words(self.shares, self.proofs)
+
+
+def read_exactly(source, size, what):
+    read = source.read(size)
+    if len(read) != size:
+        raise ValueError(f"the batch ends within {what}")
+    return read
+
+
+def read_front(source):
+    """Reads a batch up to its first record."""
+    head = read_exactly(source, 32, "its head")
+    version, shares, proofs, length, claims, reports = struct.unpack_from("<6I", head, 8)
+    if head[:8] != b"FLPBATCH" or version != 1:
+        raise ValueError("no batch of version 1")
+    text = read_exactly(source, length, "its circuit text")
+    olds = read_exactly(source, 16 * claims, "its old claims")
+    return Front(shares, proofs, text, [olds[at : at + 16] for at in range(0, len(olds), 16)], reports)
 
 
 def part_of(nonce, parts):
+    """The part to which a nonce falls. Any function of the nonce serves."""
     return int.from_bytes(nonce[:16], "little") % parts
+
+
+def front_of_all(fronts):
+    """The front of several batches as one: they agree in shares, proofs and text, and their claims are merged."""
+    first = fronts[0]
+    if any((front.shares, front.proofs, front.text) != (first.shares, first.proofs, first.text) for front in fronts):
+        raise ValueError("the batches differ in their shares, proofs or circuit text")
+    claims = sorted(set().union(*(front.claims for front in fronts)))
+    return dataclasses.replace(first, claims=claims, reports=0)
+
+
+def split(sources, sinks, printed=None):
+    """Writes batches, as if they were one, to so many sinks, which can be sought, by the nonces of records and claims.
+
+    The records are read once and none is kept; how many there are of each part is written into its head at the end.
+    """
+    fronts, parts = [read_front(source) for source in sources], len(sinks)
+    front = front_of_all(fronts)
+    size, counts = front.record_size(printed), [0] * parts
+    for part, sink in enumerate(sinks):
+        mine = [old for old in front.claims if part_of(old, parts) == part]
+        sink.write(dataclasses.replace(front, claims=mine).packed())
+    for source, given in zip(sources, fronts):
+        for _ in range(given.reports):
+            record = read_exactly(source, size, "its records")
+            part = part_of(record, parts)
+            sinks[part].write(record)
+            counts[part] += 1
+        if source.read(1):
+            raise ValueError("bytes follow a batch's last record")
+    for sink, count in zip(sinks, counts):
+        sink.seek(28)
+        sink.write(struct.pack("<I", count))
+    return counts
 
 
 # ---- texts
 
 
-def read_text(text):
-    """The verdict lines, the count and the aggregate of what `flp verify` printed."""
-    lines = text.splitlines()
-    if len(lines) < 2 or not lines[-2].startswith("count ") or not lines[-1].startswith("aggregate"):
-        raise ValueError("the text has no count and aggregate at its end")
-    return lines[:-2], int(lines[-2].split()[1]), [int(number) for number in lines[-1].split()[1:]]
+@dataclasses.dataclass
+class Ending:
+    """What `flp verify` printed behind the verdicts."""
+
+    count: int | None = None
+    aggregate: list | None = None  # None where a policy withheld it
+    withheld: int | None = None
+    claims: list = dataclasses.field(default_factory=list)
 
 
-def add(texts):
-    """One text of parts: all their verdict lines, the count of all and the sum of the aggregates modulo p."""
-    verdicts, count, totals = [], 0, None
-    for text in texts:
-        lines, counted, aggregate = read_text(text)
-        if totals is not None and len(totals) != len(aggregate):
+def read_text(lines, verdict=lambda line: None):
+    """The ending of a text, whose verdict lines are handed on one by one."""
+    found = Ending()
+    for line in lines:
+        line = line.rstrip("\n")
+        name, _, rest = line.partition(" ")
+        if re.fullmatch("[0-9a-f]{32}", name) and found.count is None:
+            verdict(line)
+        elif name == "count" and found.count is None:
+            found.count = int(rest)
+        elif name == "aggregate" and found.count is not None:
+            found.aggregate = [int(number) for number in rest.split()]
+        elif name == "withheld" and found.count is not None:
+            found.withheld = int(rest)
+        elif name == "claim" and found.count is not None:
+            found.claims.append(rest)
+        else:
+            raise ValueError(f"no line of a text: {line}")
+    if found.aggregate is None and found.withheld is None:
+        raise ValueError("the text has no count and aggregate at its end: it is cut, or verify failed")
+    return found
+
+
+def total(endings, least=0):
+    """The ending of a batch by those of its parts: counts and aggregates, modulo p, add up, and claims are merged."""
+    made = Ending(count=0)
+    for ending in endings:
+        if ending.aggregate is None:
+            raise ValueError("a part's aggregate is withheld: ask --min of the whole, not of parts")
+        if made.aggregate is not None and len(made.aggregate) != len(ending.aggregate):
             raise ValueError("the parts have aggregates of different lengths")
-        verdicts += lines
-        count += counted
-        totals = aggregate if totals is None else [(a + b) % P for a, b in zip(totals, aggregate)]
-    return "".join(line + "\n" for line in verdicts + [f"count {count}", " ".join(["aggregate"] + [str(n) for n in totals or []])])
+        made.count += ending.count
+        before = made.aggregate or [0] * len(ending.aggregate)
+        made.aggregate = [(a + b) % P for a, b in zip(before, ending.aggregate)]
+        made.claims += ending.claims
+    made.claims.sort()
+    if made.count < least:
+        made.aggregate, made.withheld = None, 0
+    return made
 
 
-def chart(numbers, title):
+def printed_ending(ending):
+    """The lines of an ending, as `flp verify` prints them."""
+    lines = [f"count {ending.count}"]
+    if ending.aggregate is None:
+        lines.append(f"withheld {ending.withheld}")
+    else:
+        lines.append(" ".join(["aggregate", *map(str, ending.aggregate)]))
+    return "".join(line + "\n" for line in lines + [f"claim {claim}" for claim in ending.claims])
+
+
+def verdicts(lines):
+    """How many verdicts a text has of each kind."""
+    kinds = collections.Counter()
+    read_text(lines, lambda line: kinds.update([line.split()[1]]))
+    return kinds
+
+
+def chart(numbers, title, names=()):
     """A bar for each number, as SVG."""
-    width, height, bar = 40 + 24 * max(len(numbers), 1), 180, 24
-    most = max(numbers, default=0) or 1
-    rows = [f'<svg xmlns="http://www.w3.org/2000/svg" width="{width}" height="{height}" font-family="sans-serif" font-size="9">']
-    rows.append(f'<text x="20" y="14" font-size="11">{title.replace("&", "&amp;").replace("<", "&lt;")}</text>')
+    names = list(names) + [str(place) for place in range(len(names), len(numbers))]
+    bar, room = 44, 160
+    width, most = 40 + bar * max(len(numbers), 1), max(numbers, default=0) or 1
+    size = f'viewBox="0 0 {width} {room + 70}" font-family="sans-serif" font-size="11"'
+    rows = [f'<svg xmlns="http://www.w3.org/2000/svg" {size}>']
+    rows.append(f'<rect width="{width}" height="{room + 70}" fill="#ffffff"/>')
+    rows.append(f'<text x="20" y="18" font-size="13">{html.escape(title)}</text>')
     for place, number in enumerate(numbers):
-        tall = round(130 * number / most, 2)
-        left = 20 + bar * place
-        rows.append(f'<rect x="{left}" y="{160 - tall}" width="{bar - 4}" height="{tall}" fill="#4477aa"><title>{place}: {number}</title></rect>')
-        rows.append(f'<text x="{left + bar / 2 - 2}" y="172" text-anchor="middle">{place}</text>')
+        tall, left = round(room * number / most, 2), 20 + bar * place
+        middle, top = left + (bar - 8) / 2, room + 44 - tall
+        rows.append(f'<rect x="{left}" y="{top:g}" width="{bar - 8}" height="{tall:g}" fill="#4477aa"/>')
+        rows.append(f'<text x="{middle:g}" y="{top - 4:g}" text-anchor="middle">{number}</text>')
+        rows.append(f'<text x="{middle:g}" y="{room + 60}" text-anchor="middle">{html.escape(names[place])}</text>')
     return "\n".join(rows + ["</svg>", ""])
 
 
 # ---- the command line
 
 
+def opened(path):
+    return open(path, encoding="ascii")
+
+
+def run_jobs(given):
+    text = opened(given.circuit).read()
+    rows = [[int(number) for number in row] for row in csv.reader(sys.stdin) if row]
+    made = job_file(text, lengths_for(text, given.lengths), given.shares, given.proofs, rows)
+    sys.stdout.buffer.write(made)
+
+
+def run_split(given):
+    with contextlib.ExitStack() as files:
+        sources = [files.enter_context(open(name, "rb")) for name in given.batches]
+        sinks = [files.enter_context(open(f"{given.prefix}{part}.batch", "wb")) for part in range(given.parts)]
+        split(sources, sinks, given.lengths)
+
+
+def run_add(given):
+    pass_on = (lambda line: None) if given.ending else print
+    print(printed_ending(total([read_text(opened(name), pass_on) for name in given.texts], given.min)), end="")
+
+
+def run_verdicts(given):
+    for kind, count in sorted(verdicts(opened(given.text)).items()):
+        print(kind, count)
+
+
+def run_chart(given):
+    ending = read_text(opened(given.text))
+    if ending.aggregate is None:
+        raise ValueError("the aggregate is withheld")
+    print(chart(ending.aggregate, given.title, given.names.split(",") if given.names else ()), end="")
+
+
 def main():
     parser = argparse.ArgumentParser(description=__doc__, formatter_class=argparse.RawDescriptionHelpFormatter)
-    commands = parser.add_subparsers(dest="command", required=True)
-    jobs = commands.add_parser("jobs")
-    jobs.add_argument("circuit")
+    commands = parser.add_subparsers(required=True)
+
+    def command(name, run, *words):
+        made = commands.add_parser(name)
+        made.set_defaults(run=run)
+        for word in words:
+            made.add_argument(word)
+        return made
+
+    jobs = command("jobs", run_jobs, "circuit", "--lengths")
     jobs.add_argument("--shares", type=int, default=2, choices=range(2, 17), metavar="2..16")
     jobs.add_argument("--proofs", type=int, default=1, choices=range(1, 17), metavar="1..16")
-    jobs.add_argument("--lengths")
-    parts = commands.add_parser("split")
-    parts.add_argument("batch")
-    parts.add_argument("prefix")
+    parts = command("split", run_split, "prefix", "--lengths")
+    parts.add_argument("batches", nargs="+")
     parts.add_argument("--parts", type=int, required=True)
-    parts.add_argument("--lengths")
-    texts = commands.add_parser("add")
-    texts.add_argument("texts", nargs="+")
-    drawn = commands.add_parser("chart")
-    drawn.add_argument("text")
-    drawn.add_argument("--title", default="aggregate")
+    add = command("add", run_add)
+    add.add_argument("texts", nargs="+")
+    add.add_argument("--min", type=int, default=0)
+    add.add_argument("--ending", action="store_true")
+    command("verdicts", run_verdicts, "text")
+    command("chart", run_chart, "text", "--names").add_argument("--title", default="aggregate")
     given = parser.parse_args()
-    if given.command == "jobs":
-        text = open(given.circuit, encoding="ascii").read()
-        rows = [[int(number) for number in row] for row in csv.reader(sys.stdin) if row]
-        sys.stdout.buffer.write(job_file(text, lengths_for(text, given.lengths), given.shares, given.proofs, rows))
-    elif given.command == "split":
-        for part, batch in enumerate(split(open(given.batch, "rb").read(), given.parts, given.lengths)):
-            open(f"{given.prefix}{part}.batch", "wb").write(batch)
-    elif given.command == "add":
-        sys.stdout.write(add(open(name, encoding="ascii").read() for name in given.texts))
-    else:
-        sys.stdout.write(chart(read_text(open(given.text, encoding="ascii").read())[2], given.title))
+    given.run(given)
 
 
 if __name__ == "__main__":

@@ -17,10 +17,11 @@ one_fit : (format : Format) (bytes : List ℕ) (params others : Option Params) (
     → FitsSetting format bytes params setting → FitsSetting format bytes others other → setting ≡ other
 one_fit (batches party) bytes params others setting other same circuit p q =
     let shape = one_shape (header_of bytes) setting.circuit other.circuit setting.shape other.shape circuit p.shape q.shape in
+    let names = p.params_are ∙ (same ∙ sym q.params_are) in
     let claims = sym p.claims ∙ q.claims in
-    λ i. record { circuit = circuit i; shape = shape i; claims = claims i }
-one_fit job_files bytes params others setting other same circuit p q =
-    let shape = one_job_shape (job_header_of bytes) params others setting.circuit other.circuit setting.shape other.shape same circuit p.shape q.shape in
+    λ i. record { params = names i; circuit = circuit i; shape = shape i; claims = claims i }
+one_fit (job_files writes) bytes params others setting other same circuit p q =
+    let shape = one_job_shape writes (job_header_of bytes) params others setting.circuit other.circuit setting.shape other.shape same circuit p.shape q.shape in
     let names = p.params_are ∙ (same ∙ sym q.params_are) in
     λ i. record { params = names i; circuit = circuit i; shape = shape i }
 

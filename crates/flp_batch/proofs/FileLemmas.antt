@@ -28,12 +28,12 @@ use Rattle.flp_batch.specs.Opened.{setting_of, records_start, Opens}
 -- the setting of a file that begins with a head whose text is loaded
 setting-head : (party : Option ℕ) (front rest : List ℕ) (header : Header) (params : Option Params) (circuit : Program) (shape : Shape)
     → IsHead newest_read party front header → IsLoaded header.text params circuit → IsShapeBehind header circuit shape
-    → HasSetting (batches party) (front ++ rest) params (record { circuit = circuit; shape = shape; claims = claims_of (front ++ rest) })
+    → HasSetting (batches party) (front ++ rest) params (record { params = params; circuit = circuit; shape = shape; claims = claims_of (front ++ rest) })
 setting-head party front rest header params circuit shape head text fits =
     let P : Header → Type 0 = λ h. IsLoaded h.text params circuit in
     let Q : Header → Type 0 = λ h. IsShapeBehind h circuit shape in
     let same = sym (header_of-more newest_read party front rest header head) in
-    record { head = head_fault-more newest_read party front rest header head; text = subst P same text; fits = record { shape = subst Q same fits; claims = refl } }
+    record { head = head_fault-more newest_read party front rest header head; text = subst P same text; fits = record { params_are = refl; shape = subst Q same fits; claims = refl } }
 
 -- the text's fault is one of the file
 pub fault-text : (party : Option ℕ) (front rest : List ℕ) (header : Header) (fault : CircuitFault)
@@ -50,7 +50,7 @@ pub fault-shape : (party : Option ℕ) (front rest : List ℕ) (header : Header)
 fault-shape party front rest header params circuit shape fault head text fits is =
     inr (record {
       params = params;
-      setting = record { circuit = circuit; shape = shape; claims = claims_of (front ++ rest) };
+      setting = record { params = params; circuit = circuit; shape = shape; claims = claims_of (front ++ rest) };
       has = setting-head party front rest header params circuit shape head text fits;
       is = fault_of-shape newest_read party shape front rest header fault head is;
     })
@@ -63,7 +63,7 @@ pub fault-claims : (party : Option ℕ) (front rest : List ℕ) (header : Header
 fault-claims party front rest header params circuit shape fault head text fits small is =
     inr (record {
       params = params;
-      setting = record { circuit = circuit; shape = shape; claims = claims_of (front ++ rest) };
+      setting = record { params = params; circuit = circuit; shape = shape; claims = claims_of (front ++ rest) };
       has = setting-head party front rest header params circuit shape head text fits;
       is = fault_of-claims newest_read party shape front rest header fault head small is;
     })
@@ -117,7 +117,7 @@ behind party left mid o opens rest =
     record {
       head = ap (batch_head_fault newest_read party) (split party o.shape opens.front rest o.header f) ∙ head_fault-more newest_read party f.head (f.claims ++ rest) o.header f.says;
       text = subst P same opens.is.text;
-      fits = record { shape = subst Q same opens.is.shape; claims = claims-more party o.shape opens.front rest o.header f ∙ opens.claims };
+      fits = record { params_are = refl; shape = subst Q same opens.is.shape; claims = claims-more party o.shape opens.front rest o.header f ∙ opens.claims };
     }
 
 -- a fault of the records

@@ -24,3 +24,5 @@ pub mod OutcomeLemmas
 pub mod FaultLemmas
 -- where a reader stands
 pub mod ReaderLemmas
+-- what is written as a batch is one
+pub mod WrittenLemmas

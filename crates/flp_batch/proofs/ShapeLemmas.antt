@@ -48,8 +48,8 @@ abbrev job_shape_with : Shape → (input prove : ℕ) → (checked written : Boo
 job_shape_with s input prove checked written =
     record { shares = s.shares; proofs = s.proofs; input = input; meas = s.meas; joint = s.joint; prove = prove; query = s.query; proof = s.proof; checked = checked; written = written; few_shares = s.few_shares; few_proofs = s.few_proofs }
 
-same-job_shape : (header : JobHeader) (params : Option Params) (circuit : Program) (s t : JobShape) → IsJobShapeBehind header params circuit s → IsJobShapeBehind header params circuit t → s ≡ t
-same-job_shape header params circuit s t p q =
+same-job_shape : (writes : Bool) (header : JobHeader) (params : Option Params) (circuit : Program) (s t : JobShape) → IsJobShapeBehind writes header params circuit s → IsJobShapeBehind writes header params circuit t → s ≡ t
+same-job_shape writes header params circuit s t p q =
     let outs = (counted_lengths circuit).outs in
     let made = one_shape (made_header header) circuit circuit (record_shape s outs) (record_shape t outs) (λ i. circuit) p.of_record q.of_record in
     let input = p.input ∙ sym q.input in
@@ -59,9 +59,9 @@ same-job_shape header params circuit s t p q =
     λ i. job_shape_with (made i) (input i) (prove i) (checked i) (written i)
 
 -- so are two shapes of jobs
-pub one_job_shape : (header : JobHeader) (params others : Option Params) (circuit other : Program) (s t : JobShape) → params ≡ others → circuit ≡ other
-    → IsJobShapeBehind header params circuit s → IsJobShapeBehind header others other t → s ≡ t
-one_job_shape header params others circuit other s t e f p q =
-    let P : Option Params → Type 0 = λ o. IsJobShapeBehind header o other t in
-    let Q : Program → Type 0 = λ c. IsJobShapeBehind header params c t in
-    same-job_shape header params circuit s t p (subst Q (sym f) (subst P (sym e) q))
+pub one_job_shape : (writes : Bool) (header : JobHeader) (params others : Option Params) (circuit other : Program) (s t : JobShape) → params ≡ others → circuit ≡ other
+    → IsJobShapeBehind writes header params circuit s → IsJobShapeBehind writes header others other t → s ≡ t
+one_job_shape writes header params others circuit other s t e f p q =
+    let P : Option Params → Type 0 = λ o. IsJobShapeBehind writes header o other t in
+    let Q : Program → Type 0 = λ c. IsJobShapeBehind writes header params c t in
+    same-job_shape writes header params circuit s t p (subst Q (sym f) (subst P (sym e) q))

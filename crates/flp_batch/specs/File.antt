@@ -1,5 +1,5 @@
 -- A whole file of either format: what it is, or its first fault, and how much of it is read. From what its head says up.
-use Rattle.std.specs.Prelude.{ℕ, ◌≡◌, ◌+◌, ◌⊎◌, List, Option, None, Some, IfSome, take, drop}
+use Rattle.std.specs.Prelude.{ℕ, ◌≡◌, ◌+◌, ◌⊎◌, List, Bool, Option, None, Some, IfSome, take, drop}
 use Rattle.flp_syntax.specs.declared.syntax.Params.{Params}
 use Rattle.flp_load.specs.declared.fault.CircuitFault.{CircuitFault}
 use Rattle.flp_load.specs.Loaded.{IsLoaded}
@@ -33,9 +33,9 @@ pub record IsFile (format : Format) (bytes : List ℕ) (params : Option Params) 
 abbrev pub IsBatch : Option ℕ → (bytes : List ℕ) → Option Params → Setting → Type 0
 IsBatch party bytes params setting = IsFile (batches party) bytes params setting
 
--- a job file
-abbrev pub IsJobFile : (bytes : List ℕ) → JobSetting → Type 0
-IsJobFile bytes setting = IsFile job_files bytes setting.params setting
+-- a job file, whose batch is to be written or not
+abbrev pub IsJobFile : (writes : Bool) → (bytes : List ℕ) → JobSetting → Type 0
+IsJobFile writes bytes setting = IsFile (job_files writes) bytes setting.params setting
 
 -- ---- or its first fault
 

@@ -1,5 +1,5 @@
 -- What the records that are made of a job file are made by.
-use Rattle.std.specs.Prelude.{ℕ, ◌≡◌, Option, Some, None, true, is_none}
+use Rattle.std.specs.Prelude.{ℕ, ◌≡◌, Bool, Option, Some, None, is_none}
 use Rattle.flp_syntax.specs.declared.syntax.Params.{Params}
 use Rattle.flp_syntax.specs.Tree.{Program}
 use Rattle.flp_circuits.specs.Sizes.{input_len_of}
@@ -26,10 +26,10 @@ input_count (Some params) circuit = input_len_of params
 input_count None circuit = (counted_lengths circuit).meas
 
 -- the shape of the jobs behind this header, whose text is loaded as this circuit: a record of it is one of the batch. Input
--- words are checked where they are those of an encoding, and the batch of the jobs is to be written
-pub record IsJobShapeBehind (header : JobHeader) (params : Option Params) (circuit : Program) (shape : JobShape) : Type 0 where
+-- words are checked where they are those of an encoding, and the batch of the jobs is to be written or not
+pub record IsJobShapeBehind (writes : Bool) (header : JobHeader) (params : Option Params) (circuit : Program) (shape : JobShape) : Type 0 where
   pub of_record : IsShapeBehind (made_header header) circuit (record_shape shape (counted_lengths circuit).outs)
   pub input : shape.input ≡ input_count params circuit
   pub prove : shape.prove ≡ (counted_lengths circuit).prove
   pub checked : shape.checked ≡ is_none params
-  pub written : shape.written ≡ true
+  pub written : shape.written ≡ writes

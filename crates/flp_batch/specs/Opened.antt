@@ -15,7 +15,7 @@ use Rattle.flp_batch.specs.Setting.{Setting, IsShapeBehind}
 
 -- what the records behind are judged by
 abbrev pub setting_of : Opened → Setting
-setting_of o = record { circuit = o.loaded.plan.circuit; shape = o.shape; claims = nonces_in o.claims }
+setting_of o = record { params = o.loaded.params; circuit = o.loaded.plan.circuit; shape = o.shape; claims = nonces_in o.claims }
 
 -- the parts agree: a head within its limits, the circuit of its text, and the shape that both give
 pub record IsOpened (party : Option ℕ) (o : Opened) : Type 0 where

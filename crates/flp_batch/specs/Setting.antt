@@ -1,12 +1,14 @@
 -- What the records of a batch are judged by.
-use Rattle.std.specs.Prelude.{ℕ, ◌≡◌, List}
+use Rattle.std.specs.Prelude.{ℕ, ◌≡◌, List, Option}
+use Rattle.flp_syntax.specs.declared.syntax.Params.{Params}
 use Rattle.flp_syntax.specs.Tree.{Program}
 use Rattle.flp_plan.specs.Counted.{counted_lengths}
 use Rattle.flp_report.specs.declared.header.Header.{Header}
 use Rattle.flp_report.specs.declared.shape.Shape.{Shape}
 
--- the circuit, the shape of the records, and the old claims
+-- the parameters, where the circuit is a standard one, the circuit, the shape of the records, and the old claims
 pub record Setting : Type 0 where
+  pub params : Option Params
   pub circuit : Program
   pub shape : Shape
   pub claims : List (List ℕ)

@@ -182,17 +182,20 @@ impl Watch {
 
     /// Whether what was counted is due to a run on these words that ended so.
     ///
-    /// No policy is kept. `verify` alone tells and asks them and passes the gate, at which the workers meet; where it
-    /// ends well, it tells each policy as many verdicts as it writes lines of reports, and asks it once at most.
+    /// No policy is kept. `verify` and `trial` alone pass the gate, at which the workers meet. `verify` alone tells and asks
+    /// policies; where it ends well, it tells each as many verdicts as it writes lines of reports, and asks it once at most.
     pub fn is_due(&self, words: &[&str], status: u8, output: &[u8]) -> bool {
         if !self.is_alone() {
             return false;
         }
-        if status == USAGE || words.get(1).copied() != Some("verify") {
-            return self.has_heard(0, 0) && self.gate.is_unpassed();
+        match words.get(1).copied() {
+            Some("verify") if status != USAGE => {
+                let ends_well = status == 0 || status == WITHHELD;
+                self.gate.is_met() && (!ends_well || self.has_heard(verdicts(output), 1))
+            }
+            Some("trial") if status != USAGE => self.has_heard(0, 0) && self.gate.is_met(),
+            _ => self.has_heard(0, 0) && self.gate.is_unpassed(),
         }
-        let ends_well = status == 0 || status == WITHHELD;
-        self.gate.is_met() && (!ends_well || self.has_heard(verdicts(output), 1))
     }
 }
 

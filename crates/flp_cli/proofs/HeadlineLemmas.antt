@@ -8,7 +8,6 @@ use Rattle.flp_report.specs.declared.shape.Shape.{Shape}
 use Rattle.flp_report.specs.Head.{number_at}
 use Rattle.flp_report.specs.Batch.{header_of}
 use Rattle.flp_worker.specs.Worker.{IsShapeOf}
-use Rattle.flp_verdict.specs.Laws.{SumsMeasurements}
 use Rattle.flp_batch.specs.Setting.{IsShapeBehind}
 
 -- the shape of the records is one of the circuit
@@ -26,10 +25,8 @@ shape-of bytes circuit shape fits few = record {
   proof = fits.proof;
 }
 
--- the sums of measurements, where the text names a standard circuit
-pub sums-of : ((text : List ℕ) (params : Params) (program : Program) → IsLoaded text (Some params) program
-    → (shape : Shape) (claims reports : List (List ℕ)) → SumsMeasurements program params shape claims reports)
-    → (text : List ℕ) (params : Option Params) (program : Program) → IsLoaded text params program
-    → (shape : Shape) (claims reports : List (List ℕ)) → IfSome params (λ p. SumsMeasurements program p shape claims reports)
-sums-of law text None program loaded shape claims reports = tt
-sums-of law text (Some params) program loaded shape claims reports = law text params program loaded shape claims reports
+-- a law of standard circuits, where the text names one
+pub if-standard : (P : Params → Type 0) (text : List ℕ) (params : Option Params) (program : Program) → IsLoaded text params program
+    → ((params : Params) → IsLoaded text (Some params) program → P params) → IfSome params P
+if-standard P text None program loaded law = tt
+if-standard P text (Some params) program loaded law = law params loaded

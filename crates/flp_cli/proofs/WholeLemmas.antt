@@ -1,7 +1,7 @@
--- The ends of `prove` and `lengths`, which write nothing before they know their reply, in the words of their dutys.
+-- The ends of commands on job files and of `lengths`, which write nothing before they know their reply, in the words of their dutys.
 use Rattle.std.proofs.Common.{◌≡◌, ℕ, ◌≤◌, Option, None, Some, Result, Ok, Err, List, [], ◌∷◌, length, take, refl, sym, ap, subst, ◌∙◌, inl, inr, ◌⊎◌, ⊎_elim, arith}
 use Rattle.std.specs.Prelude.{◌≢◌, IfSome, IfErr, IsTrue, OnOk}
-use Rattle.std.specs.Io.KnownBytes.{Keeps}
+use Rattle.std.specs.Io.KnownBytes.{Appends, Keeps}
 use Rattle.std.proofs.KnownBytes.{Consumes-nil, Keeps-refl}
 use Rattle.std.proofs.lemmas.Grind.{common_steps}
 use Rattle.flp_io.specs.Writes.{TakesPrefix}
@@ -19,14 +19,18 @@ use Rattle.flp_jobs.specs.declared.fault.ProveFault.{ProveFault}
 use Rattle.flp_jobs.specs.declared.fault.ProveFault.TheVariants.{File, Place}
 use Rattle.flp_jobs.specs.Fault.{IfJobs}
 use Rattle.flp_jobs.specs.Laws as jobs
-use Rattle.flp_jobs.specs.Record.{batch_made}
-use Rattle.flp_jobs.specs.Reply.{ProveEnds, WritesBatch, StopsInBatch, IsRefusal}
+use Rattle.flp_jobs.specs.declared.rules.Rules.{Rules}
+use Rattle.flp_jobs.specs.Record.{batch_text}
+use Rattle.flp_jobs.specs.Reply.{prove_rules}
+use Rattle.flp_jobs.specs.Rules.{IsRefusedBy, JobText, JobsEnd, MakesText, text_on}
+use Rattle.flp_reseed.specs.Reply.{hide_rules}
+use Rattle.flp_reseed.specs.Text.{hidden_text}
 use Rattle.flp_verdict.specs.Release.{Answers}
 use Rattle.flp_verify.specs.Text.{verdict_lines}
 use Rattle.flp_prep.specs.Text.{prepared_lines}
 use Rattle.flp_explain.specs.Text.{explained_lines}
 use Rattle.flp_words.specs.declared.command.Command.{Command}
-use Rattle.flp_words.specs.declared.command.Command.TheVariants.{Verify, Prove, Lengths, Prep, Explain}
+use Rattle.flp_words.specs.declared.command.Command.TheVariants.{Verify, Prove, Lengths, Prep, Explain, Hide}
 use Rattle.flp_io.specs.Reads.{ConsumesAtMost}
 use Rattle.flp_lengths.specs.Reading.{judged_text}
 use Rattle.flp_lengths.specs.Reply.{WritesLengths, StopsInLengths, StopsBy, IsFaultOfText}
@@ -36,43 +40,32 @@ use Rattle.flp_cli.specs.declared.answers.Ending.TheVariants as ending
 use Rattle.flp_cli.specs.Answers.{IsRefusalStatus, is_one_of, engine_status, file_status, status_of, all_done, by_file}
 use Rattle.flp_cli.specs.Runs.{Done, Withheld, Refused, Writes, StopsInReply, Runs}
 use Rattle.flp_cli.specs.Ends.{HasOneReply, Finishes, RefusesInput, EndsAs}
-use Rattle.flp_cli.specs.Commands.{lines_reply, verify_reply, prove_duty, lengths_duty, duty_of}
+use Rattle.flp_cli.specs.Commands.{lines_reply, verify_reply, WritesNothing, jobs_duty, lengths_duty, duty_of}
 use Rattle.flp_cli.specs.Stream.{Stream, Says}
 use Rattle.flp_cli.proofs.StatusLemmas.{file-status}
 use Rattle.flp_cli.proofs.BatchLemmas.{OneSetting, NeverBoth, OneFault, batch-one, lines-one, batch-unread}
 use Rattle.flp_cli.proofs.RunLemmas.{not_refused, end-done, end-failed, run-memory, still, within-none}
 
--- ---- `prove`
+-- ---- a command that reads a job file
 
-pub prove-one : jobs.NeverBoth → jobs.OneRefusal → HasOneReply prove_duty
-prove-one never one bytes (Done a) (Done b) x y = refl
-prove-one never one bytes (Done a) (Withheld b) x y = absurd y
-prove-one never one bytes (Done a) (Refused f) x y = absurd (never bytes x.setting f x.provable y)
-prove-one never one bytes (Withheld a) other x y = absurd x
-prove-one never one bytes (Refused f) (Withheld b) x y = absurd y
-prove-one never one bytes (Refused f) (Done b) x y = absurd (never bytes y.setting f y.provable x)
-prove-one never one bytes (Refused f) (Refused g) x y = ap status_of (one bytes f g x y)
+pub jobs-one : jobs.NeverBoth → jobs.OneRefusal → (rules : Rules) (text : JobText) → HasOneReply (jobs_duty rules text)
+jobs-one never one rules text bytes (Done a) (Done b) x y = refl
+jobs-one never one rules text bytes (Done a) (Withheld b) x y = absurd y
+jobs-one never one rules text bytes (Done a) (Refused f) x y = absurd (never rules bytes x.setting f x.good y)
+jobs-one never one rules text bytes (Withheld a) other x y = absurd x
+jobs-one never one rules text bytes (Refused f) (Withheld b) x y = absurd y
+jobs-one never one rules text bytes (Refused f) (Done b) x y = absurd (never rules bytes y.setting f y.good x)
+jobs-one never one rules text bytes (Refused f) (Refused g) x y = ap status_of (one rules bytes f g x y)
 
-prove-done : (input output : Stream) → WritesBatch input.old input.new output.old output.new → Finishes prove_duty input output ending.Done
-prove-done input output done = record {
-  known = refl;
-  writes = record {
-    bytes = done.bytes;
-    text = batch_made done.setting done.bytes;
-    read = done.read;
-    ended = done.ended;
-    replied = record { setting = done.setting; provable = done.provable; made = refl };
-    written = done.written;
-  };
-}
-
-prove-late : (input output : Stream) → StopsInBatch input.old input.new output.old output.new → Writes prove_duty Done TakesPrefix input output
-prove-late input output done = record {
+-- the text, or a prefix of it
+jobs-writes : (rules : Rules) (text : JobText) (grows : (taken taken' : Option (List ℕ)) → List ℕ → Type 0) (input output : Stream)
+    → MakesText rules text (grows output.old output.new) input.old input.new → Writes (jobs_duty rules text) Done grows input output
+jobs-writes rules text grows input output done = record {
   bytes = done.bytes;
-  text = batch_made done.setting done.bytes;
+  text = text_on text done.setting done.bytes;
   read = done.read;
   ended = done.ended;
-  replied = record { setting = done.setting; provable = done.provable; made = refl };
+  replied = record { setting = done.setting; good = done.good; made = refl };
   written = done.written;
 }
 
@@ -82,38 +75,38 @@ file-known fault = ⊎_elim (λ (six : file_status fault ≡ 6). rw six refl) (�
 not_write : (fault : BatchFault) → file_status fault ≡ 5 → ⊥
 not_write fault is = ⊎_elim (λ (six : file_status fault ≡ 6). omega arith) (λ (seven : file_status fault ≡ 7). omega arith) (file-status fault)
 
-prove-refused : (input : Stream) (fault : ProveFault) → IfJobs fault (λ f. IfSome input.old (λ bytes. IsRefusal bytes f)) → IsRefusalStatus (status_of fault)
-    → RefusesInput prove_duty input fault
-prove-refused input (File Memory) told is = not_refused 3 (λ six. omega arith) (λ seven. omega arith) (λ eight. omega arith) is
-prove-refused input (File Read) told is = not_refused 4 (λ six. omega arith) (λ seven. omega arith) (λ eight. omega arith) is
-prove-refused input (File Write) told is = not_refused 5 (λ six. omega arith) (λ seven. omega arith) (λ eight. omega arith) is
-prove-refused input (File (Batch f)) told is = record { known = file-known f; replied = told }
-prove-refused input (File (Circuit f)) told is = record { known = refl; replied = told }
-prove-refused input (Place p f) told is = record { known = refl; replied = told }
+jobs-refused : (rules : Rules) (text : JobText) (input : Stream) (fault : ProveFault) → IfJobs fault (λ f. IfSome input.old (λ bytes. IsRefusedBy rules bytes f))
+    → IsRefusalStatus (status_of fault) → RefusesInput (jobs_duty rules text) input fault
+jobs-refused rules text input (File Memory) told is = not_refused 3 (λ six. omega arith) (λ seven. omega arith) (λ eight. omega arith) is
+jobs-refused rules text input (File Read) told is = not_refused 4 (λ six. omega arith) (λ seven. omega arith) (λ eight. omega arith) is
+jobs-refused rules text input (File Write) told is = not_refused 5 (λ six. omega arith) (λ seven. omega arith) (λ eight. omega arith) is
+jobs-refused rules text input (File (Batch f)) told is = record { known = file-known f; replied = told }
+jobs-refused rules text input (File (Circuit f)) told is = record { known = refl; replied = told }
+jobs-refused rules text input (Place p f) told is = record { known = refl; replied = told }
 
-prove-early : (input output : Stream) (fault : ProveFault) → (fault ≢ File Write → Keeps output.old output.new)
-    → (fault ≡ File Write → StopsInBatch input.old input.new output.old output.new)
-    → prove_duty.early (status_of fault) input output ⊎ ((fault ≡ File Write) × StopsInReply prove_duty input output)
-prove-early input output (File Memory) kept stopped = inl ((λ is. omega arith), kept (λ is. cc))
-prove-early input output (File Read) kept stopped = inl ((λ is. omega arith), kept (λ is. cc))
-prove-early input output (File Write) kept stopped = inr (refl, inl (prove-late input output (stopped refl)))
-prove-early input output (File (Batch f)) kept stopped = inl (not_write f, kept (λ is. cc))
-prove-early input output (File (Circuit f)) kept stopped = inl ((λ is. omega arith), kept (λ is. cc))
-prove-early input output (Place p f) kept stopped = inl ((λ is. omega arith), kept (λ is. cc))
+jobs-early : (rules : Rules) (text : JobText) (input output : Stream) (fault : ProveFault) → (fault ≢ File Write → Keeps output.old output.new)
+    → (fault ≡ File Write → MakesText rules text (TakesPrefix output.old output.new) input.old input.new)
+    → WritesNothing (status_of fault) input output ⊎ ((fault ≡ File Write) × StopsInReply (jobs_duty rules text) input output)
+jobs-early rules text input output (File Memory) kept stopped = inl ((λ is. omega arith), kept (λ is. cc))
+jobs-early rules text input output (File Read) kept stopped = inl ((λ is. omega arith), kept (λ is. cc))
+jobs-early rules text input output (File Write) kept stopped = inr (refl, inl (jobs-writes rules text TakesPrefix input output (stopped refl)))
+jobs-early rules text input output (File (Batch f)) kept stopped = inl (not_write f, kept (λ is. cc))
+jobs-early rules text input output (File (Circuit f)) kept stopped = inl ((λ is. omega arith), kept (λ is. cc))
+jobs-early rules text input output (Place p f) kept stopped = inl ((λ is. omega arith), kept (λ is. cc))
 
 -- whichever way it ended
-pub prove-ends : {T : Type 0} (input output : Stream) (result : Result T ProveFault)
-    → OnOk result (WritesBatch input.old input.new output.old output.new)
+pub jobs-ends : {T : Type 0} (rules : Rules) (text : JobText) (input output : Stream) (result : Result T ProveFault)
+    → OnOk result (MakesText rules text (Appends output.old output.new) input.old input.new)
     → IfErr result (λ fault. fault ≢ File Write → Keeps output.old output.new)
-    → (result ≡ Err (File Write) → StopsInBatch input.old input.new output.old output.new)
-    → ProveEnds input.old input.new input.faults input.faults_now output.faults output.faults_now result
-    → EndsAs prove_duty input output (all_done result)
-prove-ends input output (Ok nothing) done kept stopped ends =
-    end-done prove_duty input output ending.Done (prove-done input output done) ends.few
-prove-ends input output (Err fault) done kept stopped ends = record {
+    → (result ≡ Err (File Write) → MakesText rules text (TakesPrefix output.old output.new) input.old input.new)
+    → JobsEnd rules input.old input.new input.faults input.faults_now output.faults output.faults_now result
+    → EndsAs (jobs_duty rules text) input output (all_done result)
+jobs-ends rules text input output (Ok nothing) done kept stopped ends =
+    end-done (jobs_duty rules text) input output ending.Done (record { known = refl; writes = jobs-writes rules text Appends input output done }) ends.few
+jobs-ends rules text input output (Err fault) done kept stopped ends = record {
   done = tt;
-  stopped = prove-early input output fault kept (λ is. stopped (ap Err is));
-  refused = prove-refused input fault ends.fault;
+  stopped = jobs-early rules text input output fault kept (λ is. stopped (ap Err is));
+  refused = jobs-refused rules text input fault ends.fault;
   read = λ is. ends.read cc;
   write = λ is. ends.write cc;
   takes = ends.few;
@@ -161,7 +154,7 @@ lengths-done input output done =
     record {
       known = refl;
       writes = record {
-        bytes = reads.text;
+        bytes = done.text;
         text = lengths_text done.circuit;
         read = reads.read.read;
         ended = reads.ended;
@@ -169,7 +162,7 @@ lengths-done input output done =
           params = done.params;
           circuit = done.circuit;
           made = refl;
-          loaded = subst (λ (t : List ℕ). IsLoaded t done.params done.circuit) (whole-text reads.text reads.read.few) reads.loaded;
+          loaded = subst (λ (t : List ℕ). IsLoaded t done.params done.circuit) (whole-text done.text reads.read.few) reads.loaded;
         };
         written = done.written;
       };
@@ -179,7 +172,7 @@ lengths-late : (input output : Stream) → StopsInLengths input.old input.new ou
 lengths-late input output done =
     let reads = done.read in
     record {
-      bytes = reads.text;
+      bytes = done.text;
       text = lengths_text done.circuit;
       read = reads.read.read;
       ended = reads.ended;
@@ -187,7 +180,7 @@ lengths-late input output done =
         params = done.params;
         circuit = done.circuit;
         made = refl;
-        loaded = subst (λ (t : List ℕ). IsLoaded t done.params done.circuit) (whole-text reads.text reads.read.few) reads.loaded;
+        loaded = subst (λ (t : List ℕ). IsLoaded t done.params done.circuit) (whole-text done.text reads.read.few) reads.loaded;
       };
       written = done.written;
     }
@@ -225,18 +218,19 @@ lengths-ends input output (Err fault) done stopped ends =
 pub one-reply : OneSetting → NeverBoth → OneFault → jobs.NeverBoth → jobs.OneRefusal → load.NeverBoth
     → (would : Answers) (command : Command) → HasOneReply (duty_of would command)
 one-reply setting never fault jobs refusal text would (Verify workers least claims) = batch-one setting never fault None (9 ∷ []) verdict_lines (verify_reply least would claims)
-one-reply setting never fault jobs refusal text would Prove = prove-one jobs refusal
+one-reply setting never fault jobs refusal text would Prove = jobs-one jobs refusal prove_rules batch_text
 one-reply setting never fault jobs refusal text would Lengths = lengths-one text
 one-reply setting never fault jobs refusal text would (Prep party) = lines-one setting never fault (Some party) (prepared_lines party)
-one-reply setting never fault jobs refusal text would Explain = lines-one setting never fault None explained_lines
+one-reply setting never fault jobs refusal text would (Explain joint) = lines-one setting never fault None (explained_lines joint)
+one-reply setting never fault jobs refusal text would Hide = jobs-one jobs refusal hide_rules hidden_text
 
 -- ---- no memory for the words
 
-pub prove-unread : (left taken : Option (List ℕ)) (reads writes : ℕ) (errors : Stream) → Says errors memory_line
-    → Runs prove_duty (still left reads) (still taken writes) errors 3
-prove-unread left taken reads writes errors line =
-    run-memory prove_duty (still left reads) (still taken writes) errors
-    ((λ is. omega arith), Keeps-refl taken) (inl (within-none (front_size job_files) left)) line
+pub jobs-unread : (rules : Rules) (text : JobText) (left taken : Option (List ℕ)) (reads writes : ℕ) (errors : Stream) → Says errors memory_line
+    → Runs (jobs_duty rules text) (still left reads) (still taken writes) errors 3
+jobs-unread rules text left taken reads writes errors line =
+    run-memory (jobs_duty rules text) (still left reads) (still taken writes) errors
+    ((λ is. omega arith), Keeps-refl taken) (inl (within-none (front_size (job_files rules.written)) left)) line
 
 pub lengths-unread : (left taken : Option (List ℕ)) (reads writes : ℕ) (errors : Stream) → Says errors memory_line
     → Runs lengths_duty (still left reads) (still taken writes) errors 3
@@ -252,12 +246,13 @@ pub unread : (would : Answers) (command : Command) (left taken : Option (List �
     → Runs (duty_of would command) (still left reads) (still taken writes) errors 3
 unread would (Verify workers least claims) left taken reads writes errors line =
     batch-unread None (9 ∷ []) verdict_lines (verify_reply least would claims) left taken reads writes errors line
-unread would Prove left taken reads writes errors line = prove-unread left taken reads writes errors line
+unread would Prove left taken reads writes errors line = jobs-unread prove_rules batch_text left taken reads writes errors line
 unread would Lengths left taken reads writes errors line = lengths-unread left taken reads writes errors line
 unread would (Prep party) left taken reads writes errors line =
     batch-unread (Some party) [] (prepared_lines party) (lines_reply (prepared_lines party)) left taken reads writes errors line
-unread would Explain left taken reads writes errors line =
-    batch-unread None [] explained_lines (lines_reply explained_lines) left taken reads writes errors line
+unread would (Explain joint) left taken reads writes errors line =
+    batch-unread None [] (explained_lines joint) (lines_reply (explained_lines joint)) left taken reads writes errors line
+unread would Hide left taken reads writes errors line = jobs-unread hide_rules hidden_text left taken reads writes errors line
 
 -- the run of a command that has another name
 pub run-for : (would : Answers) (command other : Command) (input output errors : Stream) (status : ℕ) → command ≡ other

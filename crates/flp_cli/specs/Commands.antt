@@ -15,8 +15,12 @@ use Rattle.flp_verify.specs.Text.{verdict_lines, released_by, refused_by}
 use Rattle.flp_prep.specs.Text.{prepared_lines}
 use Rattle.flp_explain.specs.Text.{explained_lines}
 use Rattle.flp_batch.specs.JobSetting.{JobSetting}
-use Rattle.flp_jobs.specs.Record.{batch_made}
-use Rattle.flp_jobs.specs.Reply.{IsProvable, IsRefusal}
+use Rattle.flp_jobs.specs.declared.rules.Rules.{Rules}
+use Rattle.flp_jobs.specs.Record.{batch_text}
+use Rattle.flp_jobs.specs.Reply.{prove_rules}
+use Rattle.flp_jobs.specs.Rules.{IsGoodFile, IsRefusedBy, JobText, text_on}
+use Rattle.flp_reseed.specs.Reply.{hide_rules}
+use Rattle.flp_reseed.specs.Text.{hidden_text}
 use Rattle.flp_jobs.specs.declared.fault.ProveFault.TheVariants.{File, Place}
 use Rattle.flp_io.specs.Reads.{ConsumesAtMost}
 use Rattle.flp_lengths.specs.Reading.{judged_text, ReadsFault}
@@ -24,7 +28,7 @@ use Rattle.flp_lengths.specs.Reply.{IsFaultOfText}
 use Rattle.flp_lengths.specs.Text.{lengths_text}
 use Rattle.flp_lines.specs.declared.fault.FileKind.TheVariants as kind
 use Rattle.flp_words.specs.declared.command.Command.{Command}
-use Rattle.flp_words.specs.declared.command.Command.TheVariants.{Verify, Prove, Lengths, Prep, Explain}
+use Rattle.flp_words.specs.declared.command.Command.TheVariants.{Verify, Prove, Lengths, Prep, Explain, Hide}
 use Rattle.flp_cli.specs.Runs.{Reply, Done, Withheld, Refused, Duty}
 use Rattle.flp_cli.specs.Stream.{Stream}
 
@@ -83,30 +87,30 @@ verify_reply least would claims by records = reply_with (refused_by least would 
 abbrev pub verify_duty : (least : ℕ) → Answers → (claims : Bool) → Duty
 verify_duty least would claims = batch_duty None (9 ∷ []) verdict_lines (verify_reply least would claims)
 
--- ---- `prove` and `lengths`, which write nothing before they know their reply
+-- ---- a command that reads a job file, and `lengths`, which write nothing before they know their reply
 
 -- nothing was written, but after a failed write
 abbrev pub WritesNothing : (status : ℕ) → (input output : Stream) → Type 0
 WritesNothing status input output = (status ≢ 5) × Keeps output.old output.new
 
--- bytes are a job file without a bad place, and this is its batch
-pub record BatchOfJobs (bytes text : List ℕ) : Type 0 where
+-- bytes are a job file without a bad place by these rules, and this is the text that is made of it
+pub record TextOfJobs (rules : Rules) (made_of : JobText) (bytes text : List ℕ) : Type 0 where
   pub setting : JobSetting
-  pub provable : IsProvable bytes setting
-  pub made : text ≡ batch_made setting bytes
+  pub good : IsGoodFile rules bytes setting
+  pub made : text ≡ text_on made_of setting bytes
 
-abbrev pub prove_reply : List ℕ → Reply → Type 0
-prove_reply bytes (Done text) = BatchOfJobs bytes text
-prove_reply bytes (Withheld text) = ⊥
-prove_reply bytes (Refused fault) = IsRefusal bytes fault
+abbrev pub jobs_reply : Rules → (made_of : JobText) → List ℕ → Reply → Type 0
+jobs_reply rules made_of bytes (Done text) = TextOfJobs rules made_of bytes text
+jobs_reply rules made_of bytes (Withheld text) = ⊥
+jobs_reply rules made_of bytes (Refused fault) = IsRefusedBy rules bytes fault
 
-abbrev pub prove_duty : Duty
-prove_duty = record {
+abbrev pub jobs_duty : Rules → (made_of : JobText) → Duty
+jobs_duty rules made_of = record {
   kind = kind.Job;
   statuses = 6 ∷ 7 ∷ 8 ∷ [];
-  replies = prove_reply;
+  replies = jobs_reply rules made_of;
   early = WritesNothing;
-  takes = TakesFew job_files;
+  takes = TakesFew (job_files rules.written);
 }
 
 -- the first 65,537 bytes are a circuit's text, and these are its lengths
@@ -140,7 +144,8 @@ lengths_duty = record {
 
 abbrev pub duty_of : Answers → Command → Duty
 duty_of would (Verify workers least claims) = verify_duty least would claims
-duty_of would Prove = prove_duty
+duty_of would Prove = jobs_duty prove_rules batch_text
 duty_of would Lengths = lengths_duty
 duty_of would (Prep party) = lines_duty (Some party) (prepared_lines party)
-duty_of would Explain = lines_duty None explained_lines
+duty_of would (Explain joint) = lines_duty None (explained_lines joint)
+duty_of would Hide = jobs_duty hide_rules hidden_text

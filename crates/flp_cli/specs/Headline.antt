@@ -11,8 +11,10 @@ use Rattle.flp_batch.specs.File.{HasSetting}
 use Rattle.flp_verdict.specs.Laws.{JudgesOnce, AcceptsHonest, SumsMeasurements}
 use Rattle.flp_verdict.specs.Apart.{JudgesApart}
 use Rattle.flp_explain.specs.Laws.{LimitsFalseReports}
+use Rattle.flp_explain.specs.Told.{KeepsTold}
 use Rattle.flp_jobs.specs.Reply.{IsProvable}
 use Rattle.flp_jobs.specs.Laws.{ReadsBack, IsHonestlyMade}
+use Rattle.flp_reseed.specs.Laws.{SeedsMatch}
 
 -- what holds of the verdicts on records, and of their aggregate, where they stand in a file with this setting and a
 -- circuit with these parameters
@@ -24,6 +26,8 @@ pub record BatchLaws (params : Option Params) (by : Setting) (records : List (Li
   pub honest : AcceptsHonest by.circuit by.shape by.claims records
   -- of a false report a single query word, the others fixed, has few values with which it is accepted
   pub limits : LimitsFalseReports by.circuit by.shape
+  -- what is told of an encoding, with its joint words, holds
+  pub told : IfSome params (λ params. KeepsTold params by.shape)
   -- the aggregate of encoded measurements is their sum, where that is below p
   pub sums : IfSome params (λ params. SumsMeasurements by.circuit params by.shape by.claims records)
   -- records and old claims may be put into parts by their nonces, each verified by itself
@@ -41,3 +45,5 @@ pub record Headline : Type 0 where
   pub batches : (party : Option ℕ) (bytes : List ℕ) (params : Option Params) (setting : Setting)
       → HasSetting (batches party) bytes params setting → BatchLaws params setting (whole_records newest_read party setting.shape bytes)
   pub jobs : (bytes : List ℕ) (setting : JobSetting) → IsProvable bytes setting → JobLaws bytes setting
+  -- the seeds that are printed of a job file hide which measurement stands in a place
+  pub seeds : SeedsMatch

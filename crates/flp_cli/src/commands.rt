@@ -17,6 +17,7 @@ use flp_lines::FileKind;
 use flp_policy::Policy;
 use flp_pool::Gate;
 use flp_prep::prep;
+use flp_reseed::hide;
 use flp_verify::{End, EngineFault, verify};
 use flp_words::Command;
 use std::alloc::Global;
@@ -62,7 +63,8 @@ fn kind_of(command: Command) -> FileKind
         Command::Prove => FileKind::Job,
         Command::Lengths => FileKind::Circuit,
         Command::Prep(_) => FileKind::Batch,
-        Command::Explain => FileKind::Batch,
+        Command::Explain { .. } => FileKind::Batch,
+        Command::Hide => FileKind::Job,
     }
 }
 
@@ -103,7 +105,8 @@ fn perform<R: Threads + Sync, S: Source, K: Sink, G: Gate>(
         Command::Prove => all_done(prove(alloc, input, output)),
         Command::Lengths => by_file(all_done(lengths(alloc, input, output))),
         Command::Prep(party) => by_file(all_done(prep(alloc, party, input, output))),
-        Command::Explain => by_file(all_done(explain(alloc, input, output))),
+        Command::Explain { joint } => by_file(all_done(explain(alloc, joint, input, output))),
+        Command::Hide => all_done(hide(alloc, input, output)),
     }
 }
 

@@ -11,7 +11,8 @@
 //! | `prove` | a job file | the batch that is made of it | `flp_jobs` |
 //! | `lengths` | a circuit text | the lengths of the circuit | `flp_lengths` |
 //! | `prep` | a batch | the verifier words of one share of each report | `flp_prep` |
-//! | `explain` | a batch | the query word that limits each proof | `flp_explain` |
+//! | `explain` | a batch | the query word that limits each proof, and the joint word that catches each encoding | `flp_explain` |
+//! | `hide` | a job file | the seeds that hide which measurement stands in a place | `flp_reseed` |
 //!
 //! [`without_words`] is what a program does that cannot have its words.
 #![tactic(auto)]

@@ -29,8 +29,10 @@ use std::thread::Threads;
 /// asks for at most 65,537 bytes, and writes the lengths of the circuit. `prep --party K`, K from 0 to 15, reads a batch
 /// and writes for each report the verifier words of share K alone, or the line of `verify` where no proof decided.
 /// `explain` reads a batch and writes for each proof of each report the query word that limits it and how many values
-/// of that word are accepted at most, or that the encoding is valid. For each status but 0 and 9 one line goes to
-/// `errors`, whose faults change no answer.
+/// of that word are accepted at most, or that the encoding is valid; with `--joint` also whether the encoding is that of
+/// a measurement, and else which joint word catches it. `hide` reads a job file and writes for each place but the first
+/// and each proof the seeds with which that measurement's proof has the verifier of the first's. For each status but 0 and
+/// 9 one line goes to `errors`, whose faults change no answer.
 ///
 /// | status | meaning | fact of `Runs` |
 /// |---|---|---|
@@ -49,7 +51,7 @@ use std::thread::Threads;
 /// the reports that were read whole, or, where its own fault came later, of the text; that of `prep`
 /// and of `explain` a prefix of the lines of the reports that were read whole. After 4 and 6 the lines
 /// of all segments in front of the one that could not be read are among them. After 5 the output of
-/// `lengths` has taken a prefix of its lines and that of `prove` a prefix of the batch. The policies,
+/// `lengths` and of `hide` has taken a prefix of its lines and that of `prove` a prefix of the batch. The policies,
 /// fewer than 4,294,967,295, are told the verdicts by `verify` alone, and all are dropped within the call.
 pub fn run<R: Threads + Sync, S: Source, K: Sink, E: Sink, G: Gate>(
     rt: &R,
@@ -95,8 +97,10 @@ fn headline()
     flp_verdict::laws::once();
     flp_verify::laws::honest();
     flp_explain::laws::false_reports();
+    flp_explain::laws::told_encodings();
     flp_verify::laws::sums();
     flp_verdict::laws::apart();
     flp_jobs::laws::reads_back();
     flp_jobs::laws::records_are_honest();
+    flp_reseed::laws::seeds_match();
 }

@@ -19,15 +19,17 @@ use Rattle.flp_report.specs.Record.{words_in, own_word}
 use Rattle.flp_report.specs.Words.{bad_word_in}
 use Rattle.flp_policy.specs.declared.verdict.Verdict.TheVariants.{Accepted}
 use Rattle.flp_weak.specs.declared.word.Weak.{Weak}
-use Rattle.flp_weak.specs.AtMost.{AcceptsWith, Bounded}
-use Rattle.flp_weak.specs.Laws.{IsProof, IsLow}
-use Rattle.flp_weak.proofs.CountLemmas.{at_most-harder}
+use Rattle.flp_weak.specs.AtMost.{AcceptsWith}
+use Rattle.flp_weak.specs.Laws.{IsProof}
+use Rattle.flp_weak.specs.WeakWord.{weak_of}
+use Rattle.flp_count.proofs.CountLemmas.{at_most-harder}
 use Rattle.flp_weak.proofs.WeakLemmas.{valid_has_none, weak_is_bounded, bound_is_low}
 use Rattle.flp_worker.specs.Parts.{share_numbers, share_proof, joint_words, query_words, unshared_encoding, unshared_proof}
 use Rattle.flp_worker.specs.Verdict.{verdict_of, verdict_by, first_inside, proof_holds, all_hold}
 use Rattle.flp_worker.specs.Worker.{IsShapeOf}
 use Rattle.flp_worker.proofs.PartLemmas.{length-words_in, own-inside, words-part}
 use Rattle.flp_explain.specs.Found.{weak_in}
+use Rattle.flp_explain.specs.Told.{HasBound}
 use Rattle.flp_explain.specs.Laws.{query_word, with_query_word, AcceptsValue, IsFalseReport, IsLimited, LimitsFalseReports}
 use Rattle.flp_explain.proofs.ReplacedLemmas.{words-replaced, encoding-kept, proof-kept, joint-kept, query-replaced}
 
@@ -111,32 +113,35 @@ none_is_valid program shape bytes proof =
     let words : List ℕ = words_in shape bytes in
     valid_has_none program (unshared_encoding shape words) (joint_words shape words proof) (unshared_proof shape words proof)
 
-limited : (program : Program) (shape : Shape) (bytes : List ℕ) (proof : ℕ) (found : Option Weak) → IsBounded program → IsShapeOf program shape
-    → IsFalseReport program shape bytes proof → weak_in program shape bytes proof ≡ found → IsLimited program shape bytes proof
+-- under joint words under which the encoding fails
+pub has_bound : (program : Program) (x joint proof : List ℕ) → IsBounded program → (IsValid program x joint → ⊥) → IsProof program proof → HasBound program x joint proof
+has_bound program x joint proof bounded fails of_proof = by_weak (weak_of program x joint proof) refl
+  where
+    by_weak : (found : Option Weak) → weak_of program x joint proof ≡ found → HasBound program x joint proof
+    by_weak None is = absurd (fails ((valid_has_none program x joint proof).0 is))
+    by_weak (Some weak) is = record {
+      weak = weak;
+      found = is;
+      low = bound_is_low program bounded x joint proof weak is;
+      few = weak_is_bounded program bounded x joint proof weak of_proof is;
+    }
+
+pub limits_false_reports : (program : Program) (shape : Shape) → IsBounded program → IsShapeOf program shape → LimitsFalseReports program shape
 unfolding weak_in
-limited program shape bytes proof None bounded fits false_report is =
-    let words : List ℕ = words_in shape bytes in
-    absurd (false_report.fails ((valid_has_none program (unshared_encoding shape words) (joint_words shape words proof) (unshared_proof shape words proof)).0 is))
-limited program shape bytes proof (Some weak) bounded fits false_report is =
+limits_false_reports program shape bounded fits bytes proof false_report =
     let words : List ℕ = words_in shape bytes in
     let x : List ℕ = unshared_encoding shape words in
     let joint : List ℕ = joint_words shape words proof in
     let own : List ℕ = unshared_proof shape words proof in
     let query : List ℕ = query_words shape words proof in
-    let low : IsLow program weak = bound_is_low program bounded x joint own weak is in
-    let inside : weak.word < shape.query = omega (arith, low.inside, fits.query) in
-    let few : Bounded program x joint own weak.word weak.bound =
-    weak_is_bounded program bounded x joint own weak (is_proof program shape words proof fits) is in
+    let h : HasBound program x joint own = has_bound program x joint own bounded false_report.fails (is_proof program shape words proof fits) in
+    let inside : h.weak.word < shape.query = omega (arith, h.low.inside, fits.query) in
     record {
-      weak = weak;
-      found = is;
-      low = low;
+      weak = h.weak;
+      found = h.found;
+      low = h.low;
       few =
-          at_most-harder weak.bound (AcceptsValue program shape bytes proof weak.word) (AcceptsWith program x joint own query weak.word)
-          (λ value. accepted-with program shape bytes proof weak.word value false_report inside)
-          (few query (length-queried program shape bytes proof fits false_report.inside));
+          at_most-harder h.weak.bound (AcceptsValue program shape bytes proof h.weak.word) (AcceptsWith program x joint own query h.weak.word)
+          (λ value. accepted-with program shape bytes proof h.weak.word value false_report inside)
+          (h.few query (length-queried program shape bytes proof fits false_report.inside));
     }
-
-pub limits_false_reports : (program : Program) (shape : Shape) → IsBounded program → IsShapeOf program shape → LimitsFalseReports program shape
-limits_false_reports program shape bounded fits bytes proof false_report =
-    limited program shape bytes proof (weak_in program shape bytes proof) bounded fits false_report refl

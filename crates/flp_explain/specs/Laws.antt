@@ -10,7 +10,7 @@ use Rattle.flp_report.specs.Words.{bad_word_in}
 use Rattle.flp_report.specs.Layout.{word_bytes}
 use Rattle.flp_policy.specs.declared.verdict.Verdict.TheVariants.{Accepted}
 use Rattle.flp_weak.specs.declared.word.Weak.{Weak}
-use Rattle.flp_weak.specs.AtMost.{AtMost}
+use Rattle.flp_count.specs.Count.{AtMost}
 use Rattle.flp_weak.specs.Laws.{IsLow}
 use Rattle.flp_worker.specs.Parts.{joint_words, unshared_encoding}
 use Rattle.flp_worker.specs.Verdict.{verdict_of}

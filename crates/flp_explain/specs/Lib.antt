@@ -3,6 +3,10 @@
 pub mod Found
 -- how many values of it let a false record through
 pub mod Laws
+-- what is told of an encoding
+pub mod Told
+-- the standard circuit of a batch
+pub mod Standard
 -- the text
 pub mod Text
 -- what explains one record after another

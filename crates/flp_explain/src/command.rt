@@ -14,9 +14,11 @@ use flp_io::{Sink, Source};
 use flp_report::BatchReader;
 use std::alloc::Global;
 
-/// The command.
+/// The command, and whether what joint words tell is asked for.
 #[derive(Drop)]
-struct Explains;
+struct Explains {
+    joint: bool,
+}
 
 impl Task for Explains {
     ghost use Rattle.std.specs.Prelude.{None};
@@ -24,7 +26,7 @@ impl Task for Explains {
 
     ghost asked = { λ _. None };
 
-    ghost words = { λ _. words_by };
+    ghost words = { λ e. words_by e.joint };
 
     fn party(&self) -> Option<u32> {
         None
@@ -37,13 +39,15 @@ impl Task for Explains {
         opened: &Opened,
         output: &mut K,
     ) -> Result<(), EngineFault> {
-        let explaining = Explaining::new(alloc, &opened.loaded.plan, &opened.shape);
+        let explaining = Explaining::new(alloc, self.joint, &opened.loaded, &opened.shape);
         walk(alloc, reader, opened, explaining, output)
     }
 }
 
 /// Reads the batch that is the input and writes to the output, for each proof of each record, `valid` or the query word
-/// that limits the proof.
+/// that limits the proof; and behind these, where `joint` asks for it, what joint words tell of the record's encoding: `none`
+/// where it is that of a measurement, `never` where it is valid under no joint words, the joint word that catches it and for
+/// how many values at most it does not, or `body` where the circuit is no standard one.
 ///
 /// The input is read to its end. An error is the first fault of the input, or [`EngineFault::Read`],
 /// [`EngineFault::Write`] or [`EngineFault::Memory`]; the output has then taken a prefix of the lines of the records
@@ -54,16 +58,17 @@ impl Task for Explains {
 /// of lines, and for what the weak word of one proof takes.
 pub fn explain<S: Source, K: Sink>(
     alloc: Global,
+    joint: bool,
     input: &mut S,
     output: &mut K,
 ) -> Result<(), EngineFault>
     requires readable { S.ready input.old }
     requires writable { K.ready output.old }
-    ensures done { OnOk result (WritesText None explained_lines (S.left input.old) (S.left input.new) (K.taken output.old) (K.taken output.new)) }
-    ensures stopped { OnErr result (StopsEarly None explained_lines (S.left input.old) (S.left input.new) (K.taken output.old) (K.taken output.new)) }
-    ensures settled { IfErr result (λ fault. IsOfInput fault → SettlesEarly None explained_lines (S.left input.old) (S.left input.new) (K.taken output.old) (K.taken output.new)) }
+    ensures done { OnOk result (WritesText None (explained_lines joint) (S.left input.old) (S.left input.new) (K.taken output.old) (K.taken output.new)) }
+    ensures stopped { OnErr result (StopsEarly None (explained_lines joint) (S.left input.old) (S.left input.new) (K.taken output.old) (K.taken output.new)) }
+    ensures settled { IfErr result (λ fault. IsOfInput fault → SettlesEarly None (explained_lines joint) (S.left input.old) (S.left input.new) (K.taken output.old) (K.taken output.new)) }
     ensures kept { IfErr result (λ fault. IsOfFront fault → Keeps (K.taken output.old) (K.taken output.new)) }
     ensures ends { Ends (IsFault (batches None)) (TakesFew (batches None)) (S.left input.old) (S.left input.new) (S.faults input.old) (S.faults input.new) (K.faults output.old) (K.faults output.new) result }
 {
-    perform(alloc, &Explains, input, output)
+    perform(alloc, &Explains { joint }, input, output)
 }

@@ -1,21 +1,25 @@
 //! What `explain` makes of each record of a batch.
-ghost use Rattle.std.specs.Prelude.{◌≡◌, ◌++◌, ◌<◌, [], length, vec_len, IfOk, OnOk};
+ghost use Rattle.std.specs.Prelude.{◌≡◌, ◌++◌, ◌<◌, [], length, vec_len, IfOk, IfSome, OnOk};
 ghost use Rattle.std.specs.List.{flat_map};
+ghost use Rattle.std.proofs.Props.{props};
 ghost use Rattle.flp_report.specs.Shape.{words_of};
-ghost use Rattle.flp_report.specs.Record.{record_of, words_in};
+ghost use Rattle.flp_report.specs.Record.{record_of, nonce_in, words_in};
 ghost use Rattle.flp_worker.specs.Parts.{proof_numbers, unshared_encoding};
 ghost use Rattle.flp_worker.specs.Words.{shape_held, words_held};
 ghost use Rattle.flp_worker.specs.Worker.{IsShapeOf};
-ghost use Rattle.flp_explain.specs.Found.{weak_among};
-ghost use Rattle.flp_explain.specs.Text.{proof_line};
+ghost use Rattle.flp_explain.specs.Found.{weak_among, encoding_in};
+ghost use Rattle.flp_explain.specs.Standard.{IsStandard};
+ghost use Rattle.flp_explain.specs.Text.{proof_line, joint_lines};
 
 use crate::Memory;
-use crate::text::push_proof_line;
+use crate::text::{push_joint_lines, push_proof_line};
 use flp_batch::Judge;
 use flp_field::Fe;
+use flp_load::Loaded;
 use flp_plan::Plan;
 use flp_policy::Verdict;
 use flp_report::{Record, Shape};
+use flp_syntax::Params;
 use flp_verdict::push_line;
 use flp_weak::{Weak, weak_word};
 use flp_worker::Words;
@@ -25,7 +29,9 @@ use std::alloc::{AllocError, Global};
 #[derive(Drop)]
 pub(crate) struct Explaining<'a> {
     alloc: Global,
-    plan: &'a Plan,
+    /// Whether what joint words tell is asked for.
+    joint: bool,
+    loaded: &'a Loaded,
     shape: Shape,
     /// The words of a record.
     words: Vec<Fe>,
@@ -33,7 +39,8 @@ pub(crate) struct Explaining<'a> {
     encoding: Vec<Fe>,
     /// An unshared proof.
     proof: Vec<Fe>,
-    ghost fits: { IsShapeOf plan.now.circuit shape },
+    ghost fits: { IsShapeOf loaded.now.plan.circuit shape },
+    ghost standard: { IfSome loaded.now.params (IsStandard shape.meas) } by { Prim.hlevel props },
     ghost for_words: { vec_len words ≡ words_of shape },
     ghost for_encoding: { vec_len encoding ≡ shape.meas },
     ghost for_proof: { vec_len proof ≡ shape.proof },
@@ -87,21 +94,45 @@ fn push_proof_lines(
     Ok(())
 }
 
+/// Appends the line of the encoding of a record with these words, where it is asked for.
+fn push_encoding_line(
+    line: &mut Vec<u8>,
+    joint: bool,
+    params: Option<Params>,
+    words: &Words,
+    given: &Record,
+    encoding: &[Fe],
+) -> Result<(), Memory>
+    requires words { words_held words.now ≡ words_in (shape_held words.now) (record_of given.now) }
+    requires encoding { encoding.now ≡ unshared_encoding (shape_held words.now) (words_held words.now) }
+    requires standard { IfSome params (IsStandard (length encoding.now)) }
+    ensures { OnOk result (line.new.items ≡ line.old.items
+        ++ joint_lines joint params (nonce_in (record_of given.now)) (encoding_in (shape_held words.now) (record_of given.now))) }
+{
+    push_joint_lines(line, given.nonce(), joint, params, encoding)
+}
+
 impl<'a> Explaining<'a> {
-    ghost use Rattle.flp_explain.specs.Explaining.{setting_of};
+    ghost use Rattle.flp_explain.specs.Text.{words_by};
+    ghost use Rattle.flp_explain.specs.Explaining.{setting_of, wording_of};
 
     /// For the records of a batch with this circuit and shape.
     pub(crate) fn new(
         alloc: Global,
-        plan: &'a Plan,
+        joint: bool,
+        loaded: &'a Loaded,
         shape: &Shape,
     ) -> Result<Explaining<'a>, Memory>
-        requires { IsShapeOf plan.now.circuit shape.now }
-        ensures { IfOk result (λ e. setting_of e ≡ record { circuit = plan.now.circuit; shape = shape.now; claims = [] }) }
+        requires fits { IsShapeOf loaded.now.plan.circuit shape.now }
+        requires standard { IfSome loaded.now.params (IsStandard shape.now.meas) }
+        ensures shape { IfOk result (λ e. (setting_of e).shape ≡ shape.now) }
+        ensures words { IfOk result (λ e. wording_of e
+            ≡ words_by joint (record { params = loaded.now.params; circuit = loaded.now.plan.circuit; shape = shape.now; claims = [] })) }
     {
         Ok(Explaining {
             alloc,
-            plan,
+            joint,
+            loaded,
             shape: *shape,
             words: vec![in alloc; Fe::ZERO; shape.words() as usize]?,
             encoding: vec![in alloc; Fe::ZERO; shape.meas as usize]?,
@@ -112,12 +143,11 @@ impl<'a> Explaining<'a> {
 
 impl<'a> Judge for Explaining<'a> {
     ghost use Rattle.std.specs.Prelude.{⊤};
-    ghost use Rattle.flp_explain.specs.Text.{words_by};
-    ghost use Rattle.flp_explain.specs.Explaining.{setting_of};
+    ghost use Rattle.flp_explain.specs.Explaining.{setting_of, wording_of};
 
     ghost record_shape = { λ e. (setting_of e).shape };
 
-    ghost wording = { λ e. words_by (setting_of e) };
+    ghost wording = { λ e. wording_of e };
 
     ghost follows = { λ _ _. ⊤ };
 
@@ -132,12 +162,20 @@ impl<'a> Judge for Explaining<'a> {
         words.write_encoding(&mut self.encoding);
         push_proof_lines(
             self.alloc,
-            self.plan,
+            &self.loaded.plan,
             &words,
             given,
             &self.encoding,
             &mut self.proof,
             line,
+        )?;
+        push_encoding_line(
+            line,
+            self.joint,
+            self.loaded.params,
+            &words,
+            given,
+            &self.encoding,
         )
     }
 

@@ -1,5 +1,5 @@
 -- From what the reader's calls gave to what all bytes of a file say.
-use Rattle.std.proofs.Common.{◌≡◌, ◌≢◌, ◌⊎◌, ℕ, ◌+◌, ◌*◌, ◌≤◌, ⊎_elim, List, [], ◌∷◌, ◌++◌, length, Option, Some, None, Result, Err, inl, inr, refl, sym, ap, subst, ◌∙◌, arith, append-nil, length-append}
+use Rattle.std.proofs.Common.{◌≡◌, ◌≢◌, ◌⊎◌, ℕ, Bool, ◌+◌, ◌*◌, ◌≤◌, ⊎_elim, List, [], ◌∷◌, ◌++◌, length, Option, Some, None, Result, Err, inl, inr, refl, sym, ap, subst, ◌∙◌, arith, append-nil, length-append}
 use Rattle.std.specs.Prelude.{IfSome, slice_get}
 use Rattle.std.specs.Io.KnownBytes.{Consumes, IsAtEnd}
 use Rattle.std.proofs.KnownBytes.{Consumes-trans, Consumes-whole}
@@ -37,27 +37,28 @@ use Rattle.flp_batch.specs.Format.{job_files}
 use Rattle.flp_batch.specs.File.{HasSetting, IsFault, TakesFile, TakesFew}
 use Rattle.flp_report.specs.Job.{made_header}
 use Rattle.flp_jobs.specs.Reading.{setting_behind, OpensJobs, IsRefusedBehind, Reads, IsWhole, IsJobOf}
+use Rattle.flp_jobs.specs.Place.{first_job}
 use Rattle.flp_jobs.proofs.PlaceLemmas.{words-good}
 
 -- ---- a fault in front of the jobs
 
 -- of the head
-pub head-refused : (left : Option (List ℕ)) (fault : ReadFault)
+pub head-refused : (written : Bool) (left : Option (List ℕ)) (fault : ReadFault)
     → IfBatch fault (λ b. IfSome left (λ bytes. head_fault job_letters 28 None bytes ≡ Some b))
-    → IfFile (fault_from fault) (λ f. IfSome left (λ bytes. IsFault job_files bytes f))
-head-refused left read.Memory is = tt
-head-refused left read.Failed is = tt
-head-refused left (read.Batch b) is =
-    IfSome-map (λ bytes. head_fault job_letters 28 None bytes ≡ Some b) (λ bytes. IsFault job_files bytes (Batch b)) left (λ bytes found. inl found) is
+    → IfFile (fault_from fault) (λ f. IfSome left (λ bytes. IsFault (job_files written) bytes f))
+head-refused written left read.Memory is = tt
+head-refused written left read.Failed is = tt
+head-refused written left (read.Batch b) is =
+    IfSome-map (λ bytes. head_fault job_letters 28 None bytes ≡ Some b) (λ bytes. IsFault (job_files written) bytes (Batch b)) left (λ bytes found. inl found) is
 
 -- of the text
-pub text-refused : (left mid : Option (List ℕ)) (front : List ℕ) (header : JobHeader) (fault : LoadFault)
+pub text-refused : (written : Bool) (left mid : Option (List ℕ)) (front : List ℕ) (header : JobHeader) (fault : LoadFault)
     → Consumes left mid front → IsJobHead front header → IsLoadFault header.text fault
-    → IfFile (fault_of_text fault) (λ f. IfSome left (λ bytes. IsFault job_files bytes f))
-text-refused left mid front header load.Memory gone head is = tt
-text-refused left mid front header (load.Circuit fault) gone head is =
+    → IfFile (fault_of_text fault) (λ f. IfSome left (λ bytes. IsFault (job_files written) bytes f))
+text-refused written left mid front header load.Memory gone head is = tt
+text-refused written left mid front header (load.Circuit fault) gone head is =
     let P : JobHeader → Type 0 = λ h. IsCircuitFault h.text fault in
-    IfSome-consumed (λ bytes. IsFault job_files bytes (Circuit fault)) left mid front gone
+    IfSome-consumed (λ bytes. IsFault (job_files written) bytes (Circuit fault)) left mid front gone
     (λ rest. record { head = job_head-more front rest header head; text = subst P (sym (job_header_of-more front rest header head)) is })
 
 -- ---- the jobs
@@ -80,7 +81,7 @@ some-byte (b ∷ rest) some = omega arith
 
 -- ---- behind what was opened
 
-module _ (left mid : Option (List ℕ)) (front : JobFront) (o : OpensJobs left mid front) where
+module _ (written : Bool) (left mid : Option (List ℕ)) (front : JobFront) (o : OpensJobs written left mid front) where
   abbrev by : JobSetting
   by = setting_behind front
 
@@ -89,28 +90,28 @@ module _ (left mid : Option (List ℕ)) (front : JobFront) (o : OpensJobs left m
   start = sym (length-text 28 o.bytes front.header.text o.head.size (ap (λ (h : JobHeader). h.text) o.head.same))
 
   -- a file that begins with what was opened has its setting
-  behind : (rest : List ℕ) → HasSetting job_files (o.bytes ++ rest) by.params by
+  behind : (rest : List ℕ) → HasSetting (job_files written) (o.bytes ++ rest) by.params by
   behind rest =
       let P : JobHeader → Type 0 = λ h. IsLoaded h.text by.params by.circuit in
-      let Q : JobHeader → Type 0 = λ h. IsJobShapeBehind h by.params by.circuit by.shape in
+      let Q : JobHeader → Type 0 = λ h. IsJobShapeBehind written h by.params by.circuit by.shape in
       let same = sym (job_header_of-more o.bytes rest front.header o.head) in
       record { head = job_head-more o.bytes rest front.header o.head; text = subst P same o.text; fits = record { params_are = refl; shape = subst Q same o.shape } }
 
   -- a fault there: a size above its limit, or one of the jobs
-  fault-behind : (rest : List ℕ) (b : BatchFault) → job_fault_of by.shape (o.bytes ++ rest) ≡ Some b → IsFault job_files (o.bytes ++ rest) (Batch b)
+  fault-behind : (rest : List ℕ) (b : BatchFault) → job_fault_of by.shape (o.bytes ++ rest) ≡ Some b → IsFault (job_files written) (o.bytes ++ rest) (Batch b)
   fault-behind rest b is = inr (record { params = by.params; setting = by; has = behind rest; is = is })
 
   abbrev Refused : ReadFault → Type 0
-  Refused fault = IfFile (fault_from fault) (λ f. IfSome left (λ bytes. IsFault job_files bytes f))
+  Refused fault = IfFile (fault_from fault) (λ f. IfSome left (λ bytes. IsFault (job_files written) bytes f))
 
   refused-at : (fault : ReadFault) → IfBatch fault (IsRefusedBehind by.shape (length o.bytes) front.header.jobs mid) → Refused fault
   refused-at read.Memory is = tt
   refused-at read.Failed is = tt
   refused-at (read.Batch b) is =
       ⊎_elim
-      (λ large. IfSome-consumed (λ bytes. IsFault job_files bytes (Batch b)) left mid o.bytes o.read
+      (λ large. IfSome-consumed (λ bytes. IsFault (job_files written) bytes (Batch b)) left mid o.bytes o.read
       (λ rest. fault-behind rest b (job_fault-shape by.shape o.bytes rest front.header b o.head large)))
-      (λ among. IfSome-before (λ bytes. IsFault job_files bytes (Batch b)) (λ rest. jobs_fault by.shape (length o.bytes) front.header.jobs rest ≡ Some b) left mid o.bytes o.read among.1
+      (λ among. IfSome-before (λ bytes. IsFault (job_files written) bytes (Batch b)) (λ rest. jobs_fault by.shape (length o.bytes) front.header.jobs rest ≡ Some b) left mid o.bytes o.read among.1
       (λ rest found. fault-behind rest b (job_fault-jobs by.shape o.bytes rest front.header o.head among.0 ∙ found)))
       is
 
@@ -125,7 +126,7 @@ module _ (left mid : Option (List ℕ)) (front : JobFront) (o : OpensJobs left m
   pub Reads-from : (left' : Option (List ℕ)) (header : Header) (jobs : Jobs) (place count : ℕ)
       → place ≡ 28 + length front.header.text → count ≡ front.header.jobs → header ≡ made_header front.header → job_large_fault by.shape place count ≡ None
       → Consumes mid left' (jobs_bytes jobs) → IsAtEnd left' → jobs_shape jobs ≡ by.shape → jobs_count jobs ≡ count
-      → word_fault by.shape 0 (jobs_in jobs) ≡ None → Reads left left' (record { header = header; loaded = front.loaded; shape = front.shape; jobs = jobs })
+      → word_fault by.shape 0 (jobs_in jobs) ≡ None → Reads written left left' (record { header = header; loaded = front.loaded; shape = front.shape; jobs = jobs })
   Reads-from left' header jobs place count at number made small read ended shape many words =
       let bytes = jobs_bytes jobs in
       let same-count : jobs_count jobs ≡ front.header.jobs = many ∙ number in
@@ -149,9 +150,9 @@ module _ (left mid : Option (List ℕ)) (front : JobFront) (o : OpensJobs left m
       }
 
   -- no more bytes are taken than the head gives
-  pub few-jobs : (left' : Option (List ℕ)) (count : ℕ) → count ≡ front.header.jobs → ConsumesAtMost (count * job_bytes_of by.shape + 1) mid left' → TakesFew job_files left left'
+  pub few-jobs : (left' : Option (List ℕ)) (count : ℕ) → count ≡ front.header.jobs → ConsumesAtMost (count * job_bytes_of by.shape + 1) mid left' → TakesFew (job_files written) left left'
   few-jobs left' count number few =
-      inr (IfSome-consumed (TakesFile job_files left left') left mid o.bytes o.read
+      inr (IfSome-consumed (TakesFile (job_files written) left left') left mid o.bytes o.read
       (λ rest.
       let says = job_says o.bytes rest front.header o.head in
       let many : count * job_bytes_of by.shape ≡ number_at 24 (o.bytes ++ rest) * job_bytes_of by.shape = ap (λ (n : ℕ). n * job_bytes_of by.shape) (number ∙ sym says.jobs) in
@@ -213,3 +214,12 @@ pub IsJobOf-numbered : (file : JobFile) (job : Job) (number : ℕ) → IsWhole f
     → slice_get (jobs_in file.jobs) number ≡ Some (job_of job) → IsJobOf file job
 IsJobOf-numbered file job number whole same at =
     record { shape = same ∙ whole.shape; words = words-good file.shape 0 number (jobs_in file.jobs) (job_of job) whole.words at }
+
+-- that of a number is one
+pub same-numbered : (jobs : List (List ℕ)) (number : ℕ) (job other : List ℕ) → slice_get jobs number ≡ Some job → slice_get jobs number ≡ Some other → job ≡ other
+same-numbered jobs number job other p q = let same : Some job ≡ Some other = sym p ∙ q in cc
+
+-- that of number 0 is the first
+pub first-numbered : (jobs : List (List ℕ)) (job : List ℕ) → slice_get jobs 0 ≡ Some job → job ≡ first_job jobs
+first-numbered [] job at = let no : ⊥ = cc in absurd no
+first-numbered (first ∷ more) job at = let same : Some first ≡ Some job = at in cc

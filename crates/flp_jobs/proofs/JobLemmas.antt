@@ -11,7 +11,7 @@ use Rattle.flp_report.specs.Words.{words}
 use Rattle.flp_report.specs.Job.{job_part_of, job_words_of, job_bytes_of, free_words, job_bad_word}
 use Rattle.flp_report.specs.JobParts.{input_in, parts_in, seeds_word, seeds_start, seeds_in_job, job_own_word, job_own_start, job_joint_in, job_query_in}
 use Rattle.flp_report.proofs.WordPartsLemmas.{words-part, one_fits}
-use Rattle.flp_jobs.specs.Encoding.{job_input, given_words, job_seeds, job_joint}
+use Rattle.flp_jobs.specs.Encoding.{job_input, given_words, job_seeds, job_joint, job_query}
 
 -- each of a part that begins behind those of any value is a word
 pub part-good : (s : JobShape) (job : List ℕ) (n k place : ℕ) → job_bad_word s job ≡ None → free_words s ≤ k → k + n ≤ job_words_of s → place ≡ 16 + 8 * k
@@ -62,6 +62,11 @@ own-fits s proof below = one_fits proof s.proofs (s.joint + s.query) (s.input + 
 pub joint-good : (s : JobShape) (job : List ℕ) (proof : ℕ) → proof < s.proofs → job_bad_word s job ≡ None → All IsWord (job_joint s job proof)
 joint-good s job proof below good =
     part-good s job s.joint (job_own_word s proof) (job_own_start s proof) good (omega (arith, free-few s)) (omega (arith, own-fits s proof below)) refl
+
+pub query-good : (s : JobShape) (job : List ℕ) (proof : ℕ) → proof < s.proofs → job_bad_word s job ≡ None → All IsWord (job_query s job proof)
+query-good s job proof below good =
+    part-good s job s.query (job_own_word s proof + s.joint) (job_own_start s proof + 8 * s.joint) good (omega (arith, free-few s))
+    (omega (arith, own-fits s proof below)) (omega arith)
 
 -- ---- the bytes of each part
 

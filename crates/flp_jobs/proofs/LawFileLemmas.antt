@@ -1,7 +1,7 @@
 -- A job file without a bad place: what its head says, that each of its jobs is good, and that its batch is read again.
-use Rattle.std.proofs.Common.{ℕ, ◌≡◌, ◌+◌, ◌*◌, ◌^◌, ◌<◌, ◌≤◌, List, [], ◌∷◌, ◌++◌, length, map, drop, get_or, ltb, Option, Some, None, refl, sym, subst, ◌∙◌, arith, append-nil}
+use Rattle.std.proofs.Common.{ℕ, ◌≡◌, ◌+◌, ◌*◌, ◌^◌, ◌<◌, ◌≤◌, List, [], ◌∷◌, length, map, drop, get_or, ltb, Option, Some, None, refl, subst, ◌∙◌, arith}
 use Rattle.std.specs.Prelude.{IfSome, if◌then◌else◌, not, nat_eq}
-use Rattle.std.specs.List.{All, concat, starts_with}
+use Rattle.std.specs.List.{All, starts_with}
 use Rattle.std.proofs.Math.Nat.{mul-le-mul_left}
 use Rattle.std.proofs.lemmas.Bool.{le-ltb}
 use Rattle.std.proofs.lemmas.Option.{slice_get-get_or}
@@ -10,27 +10,25 @@ use Rattle.std.proofs.lemmas.List.Elements.{All-map, All-weaker}
 use Rattle.flp_report.specs.declared.fault.BatchFault.{BatchFault}
 use Rattle.flp_report.specs.declared.fault.BatchFault.TheVariants.{Magic, Version, Shares, Proofs, TextLength, TooLarge, Trailing}
 use Rattle.flp_report.specs.declared.header.Header.{Header}
-use Rattle.flp_report.specs.declared.shape.Shape.{Shape}
 use Rattle.flp_report.specs.Fault.{met, first_of, ended}
 use Rattle.flp_report.specs.Head.{number_at, numbers_fault, text_end, head_fault}
 use Rattle.flp_report.specs.Shape.{bytes_of, width_of}
-use Rattle.flp_report.specs.Buckets.{HasBucket}
 use Rattle.flp_report.specs.Pieces.{IsCut}
-use Rattle.flp_report.specs.Batch.{batch_head_fault, batch_text_end, large_fault, claims_fault, records_fault, header_of, claims_of, claims_end, front_fault, fault_of, whole_records}
-use Rattle.flp_report.specs.Layout.{head_bytes, IsWritable}
+use Rattle.flp_report.specs.Batch.{large_fault}
+use Rattle.flp_report.specs.Layout.{IsWritable}
 use Rattle.flp_report.specs.Job.{job_letters, job_header_of, made_bytes_of, made_header, job_bytes_of, job_large_fault, word_fault, jobs_fault, jobs_of}
 use Rattle.flp_report.proofs.FaultLemmas.{none-at, none-above, none-short}
-use Rattle.flp_report.proofs.BucketLemmas.{placed-one}
 use Rattle.flp_report.proofs.PiecesLemmas.{IsCut-pieces}
-use Rattle.flp_report.proofs.BackLemmas.{reads_back}
-use Rattle.flp_load.specs.Loaded.{IsLoaded}
 use Rattle.flp_load.specs.Laws.{LoadedIsBounded}
-use Rattle.flp_batch.specs.Setting.{IsShapeBehind}
 use Rattle.flp_batch.specs.Format.{newest_read, job_files}
 use Rattle.flp_batch.specs.JobSetting.{JobSetting, made_shape}
 use Rattle.flp_batch.specs.File.{HasSetting}
-use Rattle.flp_jobs.specs.Record.{record_made, batch_made}
-use Rattle.flp_jobs.specs.Reply.{IsProvable}
+use Rattle.flp_batch.proofs.WrittenLemmas.{batch_written}
+use Rattle.flp_jobs.specs.Record.{record_made}
+use Rattle.flp_jobs.specs.declared.rules.Rules.{Rules}
+use Rattle.flp_jobs.specs.Place.{judged_under, first_job}
+use Rattle.flp_jobs.specs.Rules.{IsGoodFile}
+use Rattle.flp_jobs.specs.Reply.{prove_rules, IsProvable}
 use Rattle.flp_jobs.specs.Laws.{ReadsBack, BatchesReadBack, IsHonestlyMade, RecordsAreHonest}
 use Rattle.flp_jobs.proofs.SettingLemmas.{circuit-of, outs-few, IsSetting-from}
 use Rattle.flp_jobs.proofs.PlaceLemmas.{place-good, words-good}
@@ -77,29 +75,16 @@ right-head bytes none =
 
 -- ---- the file
 
--- a batch without a fault has none in its head
-none-head : (party : Option ℕ) (shape : Shape) (batch : List ℕ) → fault_of newest_read party shape batch ≡ None → batch_head_fault newest_read party batch ≡ None
-none-head party shape batch none =
-    let front : front_fault newest_read party shape batch ≡ None =
-    none-at (front_fault newest_read party shape batch ∷ records_fault shape (claims_end batch) (number_at 28 batch) (drop (claims_end batch) batch) ∷ []) 0 none in
-    none-at
-    (
-    batch_head_fault newest_read party batch
-    ∷ large_fault shape (number_at 24 batch)
-    ∷ claims_fault (batch_text_end batch) (number_at 24 batch) (drop (batch_text_end batch) batch)
-    ∷ []
-    ) 0 front
-
-module _ (bounded : LoadedIsBounded) (bytes : List ℕ) (by : JobSetting) (provable : IsProvable bytes by) where
-  has : HasSetting job_files bytes by.params by
-  has = provable.is_file.has
+module _ (bounded : LoadedIsBounded) (rules : Rules) (bytes : List ℕ) (by : JobSetting) (good : IsGoodFile rules bytes by) where
+  has : HasSetting (job_files rules.written) bytes by.params by
+  has = good.is_file.has
 
   right : IsRight bytes
   right = right-head bytes has.head
 
   pub is_sound : IsSound by
   is_sound = record {
-    setting = IsSetting-from (job_header_of bytes) by (circuit-of (job_header_of bytes).text by.params by.circuit has.text) has.fits.shape right.least_shares;
+    setting = IsSetting-from rules.written (job_header_of bytes) by (circuit-of (job_header_of bytes).text by.params by.circuit has.text) has.fits.shape right.least_shares;
     bounded = bounded (job_header_of bytes).text by.params by.circuit has.text;
   }
 
@@ -128,7 +113,7 @@ module _ (bounded : LoadedIsBounded) (bytes : List ℕ) (by : JobSetting) (prova
       ∷ []
 
   jobs-none : first_of jobs_tried ≡ None
-  jobs-none = none-at tried 2 provable.is_file.no_fault
+  jobs-none = none-at tried 2 good.is_file.no_fault
 
   whole : length rest ≡ count * job_bytes_of by.shape
   whole =
@@ -143,16 +128,16 @@ module _ (bounded : LoadedIsBounded) (bytes : List ℕ) (by : JobSetting) (prova
   cut : IsCut (job_bytes_of by.shape) count rest (jobs_of by.shape bytes)
   cut = IsCut-pieces (job_bytes_of by.shape) count rest whole
 
-  -- each job is good
-  pub jobs-good : All (IsGood by) (jobs_of by.shape bytes)
+  -- each job is good under the joint words by which it is judged
+  pub jobs-good : All (λ job. IsGood by (judged_under rules.joints (first_job (jobs_of by.shape bytes)) job) job) (jobs_of by.shape bytes)
   jobs-good =
       λ (k : ℕ) (none : List ℕ) (below : k < length (jobs_of by.shape bytes)).
       let jobs = jobs_of by.shape bytes in
       let job = get_or jobs k none in
       let at = slice_get-get_or jobs k none below in
-      record { size = cut.sizes k none below; words = words-good by.shape 0 k jobs job words at; place = place-good by 0 k jobs job provable.all_good at }
+      record { size = cut.sizes k none below; words = words-good by.shape 0 k jobs job words at; place = place-good rules.joints by k jobs job good.all_good at }
 
-  -- ---- the batch that is made of it
+  -- ---- the batch that its jobs make
 
   abbrev header : Header
   header = made_header (job_header_of bytes)
@@ -170,7 +155,7 @@ module _ (bounded : LoadedIsBounded) (bytes : List ℕ) (by : JobSetting) (prova
       ∷ []
 
   sizes-none : first_of sizes_tried ≡ None
-  sizes-none = none-at tried 1 provable.is_file.no_fault
+  sizes-none = none-at tried 1 good.is_file.no_fault
 
   -- the batch's own sizes are within its limits
   made-small : made_bytes_of by.shape ≤ 16777216
@@ -213,53 +198,35 @@ module _ (bounded : LoadedIsBounded) (bytes : List ℕ) (by : JobSetting) (prova
         reports = few;
       }
 
+-- ---- the batch that is made of it
+
+module _ (bounded : LoadedIsBounded) (bytes : List ℕ) (by : JobSetting) (provable : IsProvable bytes by) where
   abbrev records : List (List ℕ)
   records = map (record_made by) (jobs_of by.shape bytes)
 
   records-long : All (λ r. length r ≡ made_bytes_of by.shape) records
   records-long =
       All-map (λ r. length r ≡ made_bytes_of by.shape) (record_made by) (jobs_of by.shape bytes)
-      (All-weaker (IsGood by) (λ job. length (record_made by job) ≡ made_bytes_of by.shape) (λ job good. length-record by job is_sound good) (jobs_of by.shape bytes) jobs-good)
+      (All-weaker (λ job. IsGood by job job) (λ job. length (record_made by job) ≡ made_bytes_of by.shape)
+      (λ job good. length-record by job (is_sound bounded prove_rules bytes by provable) good) (jobs_of by.shape bytes) (jobs-good bounded prove_rules bytes by provable))
 
-  records-placed : All (HasBucket (made_shape by)) records
-  records-placed = placed-one (made_shape by) records (λ two. let no : ⊥ = omega (arith, two) in no) (omega arith)
-
-  records-many : length records ≡ count
-  records-many = length-map (jobs_of by.shape bytes) (record_made by) ∙ cut.number
-
-  -- what is read of it
-  abbrev IsRead : Option ℕ → List ℕ → Type 0
-  IsRead party batch =
-      (fault_of newest_read party (made_shape by) batch ≡ None) × (header_of batch ≡ header) × (claims_of batch ≡ []) × (whole_records newest_read party (made_shape by) batch ≡ records)
-
-  is_read : (party : Option ℕ) → IfSome party (λ p. p < by.shape.shares) → IsRead party (batch_made by bytes)
-  is_read party own =
-      subst (λ (front : List ℕ). IsRead party (front ++ concat records)) (append-nil (head_bytes header))
-      (reads_back newest_read party (made_shape by) header [] records (writable party own) fits refl refl records-long records-placed records-many)
+  records-many : length records ≡ number_at 24 bytes
+  records-many = length-map (jobs_of by.shape bytes) (record_made by) ∙ (cut bounded prove_rules bytes by provable).number
 
   pub reads-back : (party : Option ℕ) → IfSome party (λ p. p < by.shape.shares) → ReadsBack party by bytes
   reads-back party own =
-      let batch = batch_made by bytes in
-      let read = is_read party own in
-      let P : Header → Type 0 = λ h. IsLoaded h.text by.params by.circuit in
-      let Q : Header → Type 0 = λ h. IsShapeBehind h by.circuit (made_shape by) in
-      record {
-        is_batch = record {
-          has = record {
-            head = none-head party (made_shape by) batch read.0;
-            text = subst P (sym read.1) has.text;
-            fits = record { shape = subst Q (sym read.1) has.fits.shape.of_record; claims = read.2 };
-          };
-          no_fault = read.0;
-        };
-        records = read.3;
-      }
+      let has = provable.is_file.has in
+      let written =
+      batch_written party (job_header_of bytes) by.params by.circuit (made_shape by) records (writable bounded prove_rules bytes by provable party own)
+      has.text has.fits.shape.of_record (fits bounded prove_rules bytes by provable) records-long records-many in
+      record { is_batch = written.is_batch; records = written.records_are }
 
 -- ---- the laws
 
 pub records_are_honest : LoadedIsBounded → RecordsAreHonest
 records_are_honest bounded bytes by provable =
-    All-weaker (IsGood by) (IsHonestlyMade by) (λ job good. honestly_made by job (is_sound bounded bytes by provable) good) (jobs_of by.shape bytes) (jobs-good bounded bytes by provable)
+    All-weaker (λ job. IsGood by job job) (IsHonestlyMade by) (λ job good. honestly_made by job (is_sound bounded prove_rules bytes by provable) good) (jobs_of by.shape bytes)
+    (jobs-good bounded prove_rules bytes by provable)
 
 pub batches_read_back : LoadedIsBounded → BatchesReadBack
 batches_read_back bounded party bytes by provable own = reads-back bounded bytes by provable party own

@@ -20,9 +20,8 @@ use Rattle.flp_report.specs.Record.{words_in}
 use Rattle.flp_report.specs.Words.{words}
 use Rattle.flp_report.specs.Layout.{word_bytes}
 use Rattle.flp_report.specs.Job.{job_part_of, job_bytes_of, job_bad_word}
-use Rattle.flp_report.specs.JobParts.{input_in, parts_in, seeds_in_job, job_own_word, job_own_start, job_joint_in, job_query_in}
+use Rattle.flp_report.specs.JobParts.{input_in, parts_in, seeds_in_job, job_joint_in, job_query_in}
 use Rattle.flp_report.proofs.WordsLemmas.{length-words}
-use Rattle.flp_report.proofs.WordPartsLemmas.{one_fits}
 use Rattle.flp_report.proofs.ReportLemmas.{words-word_bytes, length-word_bytes}
 use Rattle.flp_worker.specs.Parts.{joint_words, query_words, unshared_encoding, unshared_proof}
 use Rattle.flp_worker.proofs.PrefixLemmas.{part-fits}
@@ -34,7 +33,7 @@ use Rattle.flp_jobs.specs.Encoding.{job_input, given_words, job_seeds, job_joint
 use Rattle.flp_jobs.specs.Place.{input_fault, place_fault}
 use Rattle.flp_jobs.specs.Record.{job_proof, unshared_words, own_words, made_words, record_made}
 use Rattle.flp_jobs.specs.Laws.{KeepsProof, KeepsJob, IsHonestlyMade}
-use Rattle.flp_jobs.proofs.JobLemmas.{part-good, free-few, input-good, given-good, seeds-good, joint-good}
+use Rattle.flp_jobs.proofs.JobLemmas.{input-good, given-good, seeds-good, joint-good, query-good}
 use Rattle.flp_jobs.proofs.LawPartLemmas.{sum-cut, sum_of_parts-front, flat-one, All-flat}
 use Rattle.flp_jobs.proofs.LawWordLemmas.{length-encoding, words-encoding, words-honest}
 use Rattle.flp_jobs.proofs.LawPlaceLemmas.{place-none, valid-none}
@@ -43,13 +42,6 @@ use Rattle.flp_jobs.proofs.LawPlaceLemmas.{place-none, valid-none}
 below-words : (ws : List ℕ) → AreWords ws → All (λ w. w < 2 ^ 64) ws
 below-words ws are = All-weaker IsWord (λ w. w < 2 ^ 64) (λ (w : ℕ) (word : w < modulus). omega arith) ws are
 
--- ---- query words
-
-query-good : (s : JobShape) (job : List ℕ) (proof : ℕ) → proof < s.proofs → job_bad_word s job ≡ None → AreWords (job_query s job proof)
-query-good s job proof below good =
-    let fits = one_fits proof s.proofs (s.joint + s.query) (s.input + (s.shares - 1) * job_part_of s + s.proofs * s.prove) below in
-    part-good s job s.query (job_own_word s proof + s.joint) (job_own_start s proof + 8 * s.joint) good (omega (arith, free-few s)) (omega (arith, fits)) (omega arith)
-
 -- ---- a job whose place is not bad
 
 -- what holds of the setting of jobs
@@ -57,13 +49,26 @@ pub record IsSound (by : JobSetting) : Type 0 where
   pub setting : IsSetting by
   pub bounded : IsBounded by.circuit
 
--- and of each of them
-pub record IsGood (by : JobSetting) (job : List ℕ) : Type 0 where
+-- and of each of them, which is judged under the joint words of a job
+pub record IsGood (by : JobSetting) (under job : List ℕ) : Type 0 where
   pub size : length job ≡ job_bytes_of by.shape
   pub words : job_bad_word by.shape job ≡ None
-  pub place : place_fault by job ≡ None
+  pub place : place_fault by under job ≡ None
 
-module _ (by : JobSetting) (job : List ℕ) (sound : IsSound by) (good : IsGood by job) where
+-- its encoding is valid under these
+pub valid-under : (by : JobSetting) (under job : List ℕ) (proof : ℕ) → IsSetting by → IsGood by under job → proof < by.shape.proofs
+    → IsValid by.circuit (job_encoding by job) (job_joint by.shape under proof)
+valid-under by under job proof setting good below = valid-none by under job proof (place-none by under job setting good.place).1 below
+
+-- its seeds are as many words as there are seeds
+pub seeds-are : (by : JobSetting) (under job : List ℕ) (proof : ℕ) → IsSetting by → IsGood by under job → proof < by.shape.proofs
+    → AreSeeds by.circuit (job_seeds by.shape job proof)
+seeds-are by under job proof setting good below = record {
+  words = seeds-good by.shape job proof below good.words;
+  size = length-words by.shape.prove (seeds_in_job by.shape job proof) ∙ setting.shape.prove;
+}
+
+module _ (by : JobSetting) (job : List ℕ) (sound : IsSound by) (good : IsGood by job job) where
   abbrev shape : JobShape
   shape = by.shape
 
@@ -76,7 +81,7 @@ module _ (by : JobSetting) (job : List ℕ) (sound : IsSound by) (good : IsGood 
   length-input = length-words shape.input (input_in shape job) ∙ sound.setting.shape.input
 
   not_refused : input_fault by.params (job_input shape job) ≡ None
-  not_refused = (place-none by job length-input good.place).0
+  not_refused = (place-none by job job sound.setting good.place).0
 
   length-x : length x ≡ shape.meas
   length-x = length-encoding by.params by.circuit (job_input shape job) sound.setting.circuit length-input not_refused ∙ sym sound.setting.shape.of_record.meas
@@ -87,15 +92,12 @@ module _ (by : JobSetting) (job : List ℕ) (sound : IsSound by) (good : IsGood 
       (λ (own : is_none by.params ≡ true). input-good shape job (sound.setting.shape.checked ∙ own) good.words)
 
   valid : (proof : ℕ) → proof < shape.proofs → IsValid by.circuit x (job_joint shape job proof)
-  valid proof below = valid-none by job proof (place-none by job length-input good.place).1 below
+  valid proof below = valid-under by job job proof sound.setting good below
 
   -- ---- its proofs
 
   are_seeds : (proof : ℕ) → proof < shape.proofs → AreSeeds by.circuit (job_seeds shape job proof)
-  are_seeds proof below = record {
-    words = seeds-good shape job proof below good.words;
-    size = length-words shape.prove (seeds_in_job shape job proof) ∙ sound.setting.shape.prove;
-  }
+  are_seeds proof below = seeds-are by job job proof sound.setting good below
 
   length-proof : (proof : ℕ) → proof < shape.proofs → length (job_proof by job proof) ≡ shape.proof
   length-proof proof below =

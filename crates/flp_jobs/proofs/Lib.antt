@@ -1,28 +1,28 @@
 -- no job file has two answers
 mod LawAnswerLemmas
 -- parts of lists
-mod LawPartLemmas
+pub mod LawPartLemmas
 -- encodings and honest proofs
-mod LawWordLemmas
+pub mod LawWordLemmas
 -- jobs whose place is not bad
-mod LawPlaceLemmas
+pub mod LawPlaceLemmas
 -- the record that is made of a job
-mod LawRecordLemmas
+pub mod LawRecordLemmas
 -- the batch that is made of a job file
-mod LawFileLemmas
+pub mod LawFileLemmas
 -- what was read of a file, and its faults
-mod FileLemmas
+pub mod FileLemmas
 -- the parts of a job
-mod JobLemmas
+pub mod JobLemmas
 -- bad places
-mod PlaceLemmas
+pub mod PlaceLemmas
 -- what was written, by the bytes of the file
 mod ReplyLemmas
 -- what the text says of the jobs
-mod SettingLemmas
+pub mod SettingLemmas
 -- records one after another
 mod RecordLemmas
 -- measurements that are not refused
-mod MeasLemmas
+pub mod MeasLemmas
 -- faults of the input
 mod CommandLemmas

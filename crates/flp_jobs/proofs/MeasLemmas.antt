@@ -53,7 +53,7 @@ meas-counted params count input size is =
     (range-counted (range_of params) 0 count input) (weight-counted params count input) turned
 
 -- an input with as many numbers as the circuit takes
-input-counted : (params : Option Params) (circuit : Program) (count : ℕ) (input : List ℕ) → length input ≡ input_count params circuit → IsCounted (input_fault params input) count → ⊥
+pub input-counted : (params : Option Params) (circuit : Program) (count : ℕ) (input : List ℕ) → length input ≡ input_count params circuit → IsCounted (input_fault params input) count → ⊥
 input-counted (Some params) circuit count input size is = meas-counted params count input size is
 input-counted None circuit count input size is = cc
 
@@ -63,5 +63,5 @@ job-counted by job count setting is =
     input-counted by.params by.circuit count (job_input by.shape job) (length-words by.shape.input (input_in by.shape job) ∙ setting.shape.input) is
 
 -- so that at a good place it is not refused at all
-pub input-taken : (by : JobSetting) (job : List ℕ) → IsSetting by → place_fault by job ≡ None → input_fault by.params (job_input by.shape job) ≡ None
-input-taken by job setting good = (refused_or-none _ _ (λ count. job-counted by job count setting) good).0
+pub input-taken : (by : JobSetting) (under job : List ℕ) → IsSetting by → place_fault by under job ≡ None → input_fault by.params (job_input by.shape job) ≡ None
+input-taken by under job setting good = (refused_or-none _ _ (λ count. job-counted by job count setting) good).0

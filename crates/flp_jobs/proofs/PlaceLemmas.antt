@@ -11,38 +11,44 @@ use Rattle.flp_report.specs.declared.job_shape.JobShape.{JobShape}
 use Rattle.flp_report.specs.Job.{job_bad_word, word_or, word_fault}
 use Rattle.flp_jobs.specs.declared.fault.PlaceFault.{PlaceFault}
 use Rattle.flp_jobs.specs.declared.fault.PlaceFault.TheVariants.{Check}
+use Rattle.flp_jobs.specs.declared.rules.Joints.{Joints}
 use Rattle.flp_batch.specs.JobSetting.{JobSetting}
 use Rattle.flp_jobs.specs.Encoding.{job_joint, job_encoding}
 use Rattle.flp_meaning.specs.Circuit.{failing_check}
-use Rattle.flp_jobs.specs.Place.{check_fault, first_check, refused_or, place_fault, place_or, bad_place}
+use Rattle.flp_jobs.specs.Place.{check_fault, first_check, refused_or, place_fault, judged_under, place_or, bad_from, first_job, bad_place}
 
--- the search from the job of this number on
-abbrev pub bad_from : JobSetting → ℕ → List (List ℕ) → Option (ℕ × PlaceFault)
-bad_from by k jobs = bad_place by k (drop k jobs)
+module _ (joints : Joints) (by : JobSetting) (jobs : List (List ℕ)) where
+  abbrev first : List ℕ
+  first = first_job jobs
 
--- one step
-bad-step : (by : JobSetting) (k : ℕ) (jobs : List (List ℕ)) (job : List ℕ) → slice_get jobs k ≡ Some job
-    → bad_from by k jobs ≡ place_or k (place_fault by job) (bad_from by (k + 1) jobs)
-bad-step by k jobs job at =
-    let own : get_or jobs k [] ≡ job = get_or_from_slice_get jobs k job [] at in
-    let next : suc k ≡ k + 1 = omega arith in
-    ap (λ (l : List (List ℕ)). bad_place by k l) (drop_more jobs k [] (slice_get_within jobs k job at))
-    ∙ (ap (λ (j : List ℕ). place_or k (place_fault by j) (bad_place by (suc k) (drop (k + 1) jobs))) own
-    ∙ ap (λ (n : ℕ). place_or k (place_fault by job) (bad_place by n (drop (k + 1) jobs))) next)
+  -- the search from the job of this number on
+  abbrev pub bad_behind : ℕ → Option (ℕ × PlaceFault)
+  bad_behind k = bad_from joints by first k (drop k jobs)
 
--- at a good place it goes on
-pub bad-more : (by : JobSetting) (k : ℕ) (jobs : List (List ℕ)) (job : List ℕ) → slice_get jobs k ≡ Some job → place_fault by job ≡ None
-    → bad_from by k jobs ≡ bad_from by (k + 1) jobs
-bad-more by k jobs job at good = bad-step by k jobs job at ∙ ap (λ (o : Option PlaceFault). place_or k o (bad_from by (k + 1) jobs)) good
+  -- one step
+  bad-step : (k : ℕ) (under job : List ℕ) → slice_get jobs k ≡ Some job → under ≡ judged_under joints first job
+      → bad_behind k ≡ place_or k (place_fault by under job) (bad_behind (k + 1))
+  bad-step k under job at is =
+      let own : get_or jobs k [] ≡ job = get_or_from_slice_get jobs k job [] at in
+      let next : suc k ≡ k + 1 = omega arith in
+      ap (λ (l : List (List ℕ)). bad_from joints by first k l) (drop_more jobs k [] (slice_get_within jobs k job at))
+      ∙ (ap (λ (j : List ℕ). place_or k (place_fault by (judged_under joints first j) j) (bad_from joints by first (suc k) (drop (k + 1) jobs))) own
+      ∙ (ap (λ (u : List ℕ). place_or k (place_fault by u job) (bad_from joints by first (suc k) (drop (k + 1) jobs))) (sym is)
+      ∙ ap (λ (n : ℕ). place_or k (place_fault by under job) (bad_from joints by first n (drop (k + 1) jobs))) next))
 
--- at a bad one it ends
-pub bad-here : (by : JobSetting) (k : ℕ) (jobs : List (List ℕ)) (job : List ℕ) (fault : PlaceFault) → slice_get jobs k ≡ Some job
-    → place_fault by job ≡ Some fault → bad_from by k jobs ≡ Some (k, fault)
-bad-here by k jobs job fault at bad = bad-step by k jobs job at ∙ ap (λ (o : Option PlaceFault). place_or k o (bad_from by (k + 1) jobs)) bad
+  -- at a good place it goes on
+  pub bad-more : (k : ℕ) (under job : List ℕ) → slice_get jobs k ≡ Some job → under ≡ judged_under joints first job → place_fault by under job ≡ None
+      → bad_behind k ≡ bad_behind (k + 1)
+  bad-more k under job at is good = bad-step k under job at is ∙ ap (λ (o : Option PlaceFault). place_or k o (bad_behind (k + 1))) good
 
--- past the last job there is none
-pub bad-end : (by : JobSetting) (k : ℕ) (jobs : List (List ℕ)) → length jobs ≤ k → bad_from by k jobs ≡ None
-bad-end by k jobs all = ap (λ (l : List (List ℕ)). bad_place by k l) (drop_all k jobs all)
+  -- at a bad one it ends
+  pub bad-here : (k : ℕ) (under job : List ℕ) (fault : PlaceFault) → slice_get jobs k ≡ Some job → under ≡ judged_under joints first job
+      → place_fault by under job ≡ Some fault → bad_behind k ≡ Some (k, fault)
+  bad-here k under job fault at is bad = bad-step k under job at is ∙ ap (λ (o : Option PlaceFault). place_or k o (bad_behind (k + 1))) bad
+
+  -- past the last job there is none
+  pub bad-end : (k : ℕ) → length jobs ≤ k → bad_behind k ≡ None
+  bad-end k all = ap (λ (l : List (List ℕ)). bad_from joints by first k l) (drop_all k jobs all)
 
 -- ---- where no place is bad
 
@@ -50,15 +56,22 @@ place_or-none : (place : ℕ) (fault : Option PlaceFault) (rest : Option (ℕ ×
 place_or-none place None rest none = (refl, none)
 place_or-none place (Some fault) rest none = let no : ⊥ = cc in absurd no
 
--- that of each job is good
-pub place-good : (by : JobSetting) (place k : ℕ) (jobs : List (List ℕ)) (job : List ℕ) → bad_place by place jobs ≡ None → slice_get jobs k ≡ Some job → place_fault by job ≡ None
-place-good by place k [] job none at = let no : ⊥ = cc in absurd no
-place-good by place zero (first ∷ more) job none at =
-    let same : first ≡ job = cc in
-    let P : List ℕ → Type 0 = λ j. place_fault by j ≡ None in
-    subst P same (place_or-none place (place_fault by first) (bad_place by (suc place) more) none).0
-place-good by place (suc k) (first ∷ more) job none at =
-    place-good by (suc place) k more job (place_or-none place (place_fault by first) (bad_place by (suc place) more) none).1 at
+-- that of each of the jobs from a place on is good
+good-from : (joints : Joints) (by : JobSetting) (first : List ℕ) (place k : ℕ) (jobs : List (List ℕ)) (job : List ℕ) → bad_from joints by first place jobs ≡ None
+    → slice_get jobs k ≡ Some job → place_fault by (judged_under joints first job) job ≡ None
+good-from joints by first place k [] job none at = let no : ⊥ = cc in absurd no
+good-from joints by first place zero (head ∷ more) job none at =
+    let same : head ≡ job = cc in
+    let P : List ℕ → Type 0 = λ j. place_fault by (judged_under joints first j) j ≡ None in
+    subst P same (place_or-none place (place_fault by (judged_under joints first head) head) (bad_from joints by first (suc place) more) none).0
+good-from joints by first place (suc k) (head ∷ more) job none at =
+    good-from joints by first (suc place) k more job
+    (place_or-none place (place_fault by (judged_under joints first head) head) (bad_from joints by first (suc place) more) none).1 at
+
+-- that of each job
+pub place-good : (joints : Joints) (by : JobSetting) (k : ℕ) (jobs : List (List ℕ)) (job : List ℕ) → bad_place joints by jobs ≡ None → slice_get jobs k ≡ Some job
+    → place_fault by (judged_under joints (first_job jobs) job) job ≡ None
+place-good joints by k jobs job none at = good-from joints by (first_job jobs) 0 k jobs job none at
 
 -- no measurement is refused there, where no job has another count of numbers
 pub refused_or-none : (refused : Option MeasFault) (rest : Option PlaceFault) → ((count : ℕ) → refused ≡ Some (meas.Count count) → ⊥) → refused_or refused rest ≡ None
@@ -86,35 +99,35 @@ words-good s place (suc k) (first ∷ more) job none at =
 
 -- ---- the checks of one job
 
--- the search from the proof of this number on
-abbrev pub check_from : JobSetting → List ℕ → (proof proofs : ℕ) → Option PlaceFault
-check_from by job proof proofs = first_check by job (range_with_len proof (proofs - proof))
+module _ (by : JobSetting) (under job : List ℕ) where
+  -- the search from the proof of this number on
+  abbrev pub check_from : (proof proofs : ℕ) → Option PlaceFault
+  check_from proof proofs = first_check by under job (range_with_len proof (proofs - proof))
 
--- one step
-check-step : (by : JobSetting) (job : List ℕ) (proof proofs : ℕ) → proof < proofs
-    → check_from by job proof proofs ≡ option_or (check_fault by job proof) (check_from by job (proof + 1) proofs)
-check-step by job proof proofs below =
-    let count : proofs - proof ≡ suc (proofs - (proof + 1)) = omega arith in
-    ap (λ (n : ℕ). first_check by job (range_with_len proof n)) count
+  -- one step
+  check-step : (proof proofs : ℕ) → proof < proofs → check_from proof proofs ≡ option_or (check_fault by under job proof) (check_from (proof + 1) proofs)
+  check-step proof proofs below =
+      let count : proofs - proof ≡ suc (proofs - (proof + 1)) = omega arith in
+      ap (λ (n : ℕ). first_check by under job (range_with_len proof n)) count
 
--- at a proof under whose joint words no check is found it goes on
-pub check-more : (by : JobSetting) (job : List ℕ) (proof proofs : ℕ) (found : Option ℕ) → proof < proofs
-    → found ≡ failing_check by.circuit (job_encoding by job) (job_joint by.shape job proof) → found ≡ None
-    → check_from by job proof proofs ≡ check_from by job (proof + 1) proofs
-check-more by job proof proofs found below same none =
-    check-step by job proof proofs below
-    ∙ ap (λ (o : Option ℕ). option_or (option_map (λ check. Check check proof) o) (check_from by job (proof + 1) proofs)) (sym same ∙ none)
+  -- at a proof under whose joint words no check is found it goes on
+  pub check-more : (proof proofs : ℕ) (found : Option ℕ) → proof < proofs
+      → found ≡ failing_check by.circuit (job_encoding by job) (job_joint by.shape under proof) → found ≡ None
+      → check_from proof proofs ≡ check_from (proof + 1) proofs
+  check-more proof proofs found below same none =
+      check-step proof proofs below
+      ∙ ap (λ (o : Option ℕ). option_or (option_map (λ check. Check check proof) o) (check_from (proof + 1) proofs)) (sym same ∙ none)
 
--- at another it ends
-pub check-here : (by : JobSetting) (job : List ℕ) (proof proofs : ℕ) (found : Option ℕ) (check : ℕ) → proof < proofs
-    → found ≡ failing_check by.circuit (job_encoding by job) (job_joint by.shape job proof) → found ≡ Some check
-    → check_from by job proof proofs ≡ Some (Check check proof)
-check-here by job proof proofs found check below same some =
-    check-step by job proof proofs below
-    ∙ ap (λ (o : Option ℕ). option_or (option_map (λ check. Check check proof) o) (check_from by job (proof + 1) proofs)) (sym same ∙ some)
+  -- at another it ends
+  pub check-here : (proof proofs : ℕ) (found : Option ℕ) (check : ℕ) → proof < proofs
+      → found ≡ failing_check by.circuit (job_encoding by job) (job_joint by.shape under proof) → found ≡ Some check
+      → check_from proof proofs ≡ Some (Check check proof)
+  check-here proof proofs found check below same some =
+      check-step proof proofs below
+      ∙ ap (λ (o : Option ℕ). option_or (option_map (λ check. Check check proof) o) (check_from (proof + 1) proofs)) (sym same ∙ some)
 
--- past the last proof there is none
-pub check-end : (by : JobSetting) (job : List ℕ) (proof proofs : ℕ) → proofs ≤ proof → check_from by job proof proofs ≡ None
-check-end by job proof proofs all =
-    let none : proofs - proof ≡ 0 = omega arith in
-    ap (λ (n : ℕ). first_check by job (range_with_len proof n)) none
+  -- past the last proof there is none
+  pub check-end : (proof proofs : ℕ) → proofs ≤ proof → check_from proof proofs ≡ None
+  check-end proof proofs all =
+      let none : proofs - proof ≡ 0 = omega arith in
+      ap (λ (n : ℕ). first_check by under job (range_with_len proof n)) none

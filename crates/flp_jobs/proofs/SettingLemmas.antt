@@ -1,5 +1,5 @@
 -- What a loaded text says of the jobs behind it.
-use Rattle.std.proofs.Common.{◌≡◌, ℕ, ◌≤◌, List, length, Option, Some, None, refl, arith}
+use Rattle.std.proofs.Common.{◌≡◌, ℕ, ◌≤◌, Bool, List, length, Option, Some, None, refl, arith}
 use Rattle.flp_syntax.specs.declared.syntax.Params.{Params}
 use Rattle.flp_syntax.specs.declared.syntax.Params.TheVariants.{Count, Sum, SumVec, Histogram, Multihot}
 use Rattle.flp_syntax.specs.Tree.{Program}
@@ -9,6 +9,7 @@ use Rattle.flp_circuits.proofs.Fitting.{fitting}
 use Rattle.flp_plan.specs.Counted.{counted_lengths}
 use Rattle.flp_plan.proofs.PassedLemmas.{passed, passed_outs}
 use Rattle.flp_load.specs.Loaded.{IsRead, IsLoaded}
+use Rattle.flp_load.proofs.StandardLemmas as load
 use Rattle.flp_report.specs.declared.header.JobHeader.{JobHeader}
 use Rattle.flp_batch.specs.JobSetting.{JobSetting, IsJobShapeBehind}
 use Rattle.flp_jobs.specs.Setting.{IsCircuitOf, IsSetting}
@@ -23,11 +24,7 @@ input-few (Multihot length weight chunk) fits = (fitting (Multihot length weight
 
 -- the words of an encoding
 pub meas-standard : (params : Params) → (standard_program params).meas ≡ meas_len_of params
-meas-standard Count = refl
-meas-standard (Sum max) = refl
-meas-standard (SumVec length bits chunk) = refl
-meas-standard (Histogram length chunk) = refl
-meas-standard (Multihot length weight chunk) = refl
+meas-standard params = load.meas-standard params
 
 -- a loaded circuit has few outs
 pub outs-few : (text : List ℕ) (params : Option Params) (circuit : Program) → IsLoaded text params circuit → (counted_lengths circuit).outs ≤ 65536
@@ -45,6 +42,12 @@ pub circuit-of : (text : List ℕ) (params : Option Params) (circuit : Program) 
 circuit-of text params circuit loaded = circuit-read text params circuit loaded.read
 
 -- the setting of jobs behind a head
-pub IsSetting-from : (header : JobHeader) (by : JobSetting) → IsCircuitOf by.params by.circuit → IsJobShapeBehind header by.params by.circuit by.shape → 2 ≤ header.shares → IsSetting by
-IsSetting-from header by circuit fits some =
-    record { header = header; circuit = circuit; some_shares = omega (arith, fits.of_record.shares); shape = fits }
+pub IsSetting-from : (writes : Bool) (header : JobHeader) (by : JobSetting) → IsCircuitOf by.params by.circuit → IsJobShapeBehind writes header by.params by.circuit by.shape
+    → 2 ≤ header.shares → IsSetting by
+IsSetting-from writes header by circuit fits some =
+    record {
+      header = header;
+      circuit = circuit;
+      some_shares = omega (arith, fits.of_record.shares);
+      shape = record { of_record = fits.of_record; input = fits.input; prove = fits.prove; checked = fits.checked; written = refl };
+    }

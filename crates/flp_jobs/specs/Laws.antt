@@ -1,5 +1,5 @@
 -- What is made is a batch of honest reports. From one record up to the file.
-use Rattle.std.specs.Prelude.{ℕ, ◌≡◌, ◌<◌, List, [], Option, None, IfSome, map}
+use Rattle.std.specs.Prelude.{ℕ, ◌≡◌, ◌<◌, Bool, List, [], Option, None, IfSome, map}
 use Rattle.std.specs.List.{All}
 use Rattle.flp_meaning.specs.Circuit.{IsValid}
 use Rattle.flp_report.specs.Record.{words_in}
@@ -15,24 +15,26 @@ use Rattle.flp_batch.specs.Format.{newest_read}
 use Rattle.flp_batch.specs.JobSetting.{JobSetting, made_shape}
 use Rattle.flp_jobs.specs.Encoding.{job_joint, job_query, job_encoding}
 use Rattle.flp_jobs.specs.Record.{job_proof, record_made, batch_made}
-use Rattle.flp_jobs.specs.Reply.{IsProvable, IsRefusal}
+use Rattle.flp_jobs.specs.declared.rules.Rules.{Rules}
+use Rattle.flp_jobs.specs.Rules.{IsGoodFile, IsRefusedBy}
+use Rattle.flp_jobs.specs.Reply.{IsProvable}
 
--- ---- a file has one answer
+-- ---- a file has one answer, by whichever rules
 
 abbrev pub OneSetting : Type 0
-OneSetting = (bytes : List ℕ) (setting other : JobSetting) → IsJobFile bytes setting → IsJobFile bytes other → setting ≡ other
+OneSetting = (written : Bool) (bytes : List ℕ) (setting other : JobSetting) → IsJobFile written bytes setting → IsJobFile written bytes other → setting ≡ other
 
 abbrev pub OneRefusal : Type 0
-OneRefusal = (bytes : List ℕ) (fault other : ProveFault) → IsRefusal bytes fault → IsRefusal bytes other → fault ≡ other
+OneRefusal = (rules : Rules) (bytes : List ℕ) (fault other : ProveFault) → IsRefusedBy rules bytes fault → IsRefusedBy rules bytes other → fault ≡ other
 
 abbrev pub NeverBoth : Type 0
-NeverBoth = (bytes : List ℕ) (setting : JobSetting) (fault : ProveFault) → IsProvable bytes setting → IsRefusal bytes fault → ⊥
+NeverBoth = (rules : Rules) (bytes : List ℕ) (setting : JobSetting) (fault : ProveFault) → IsGoodFile rules bytes setting → IsRefusedBy rules bytes fault → ⊥
 
 -- ---- the batch is read again
 
 -- what the records of the batch are judged by
 abbrev pub batch_setting : JobSetting → Setting
-batch_setting by = record { circuit = by.circuit; shape = made_shape by; claims = [] }
+batch_setting by = record { params = by.params; circuit = by.circuit; shape = made_shape by; claims = [] }
 
 -- the batch that is made of a job file is one, for each party that has a share, with the records that were made
 pub record ReadsBack (party : Option ℕ) (by : JobSetting) (bytes : List ℕ) : Type 0 where

@@ -1,4 +1,4 @@
--- The room for judging places and making records, one after another.
+-- The room for making records, one after another.
 use Rattle.std.specs.Prelude.{◌≡◌, ◌-◌, ◌*◌, vec_len}
 use Rattle.flp_report.specs.Shape.{words_of}
 use Rattle.flp_report.specs.Job.{record_shape, job_part_of}
@@ -8,7 +8,6 @@ use Rattle.flp_jobs.specs.declared.maker.Maker.{Maker}
 
 -- it has the room that the records of this file take
 pub record IsMadeFor (file : JobFile) (maker : Maker) : Type 0 where
-  pub checker : maker.checker ≡ sizes_of file.loaded.plan
   pub prover : maker.prover ≡ sizes_of file.loaded.plan
   pub input : vec_len maker.input ≡ file.shape.input
   pub joint : vec_len maker.joint ≡ file.shape.joint

@@ -1,5 +1,5 @@
 -- What reading a job file gave.
-use Rattle.std.specs.Prelude.{ℕ, ◌≡◌, ◌+◌, ◌≤◌, ◌⊎◌, List, Option, Some, None, IfSome, length}
+use Rattle.std.specs.Prelude.{ℕ, ◌≡◌, ◌+◌, ◌≤◌, ◌⊎◌, List, Bool, Option, Some, None, IfSome, length}
 use Rattle.std.specs.Io.KnownBytes.{Consumes, IsAtEnd}
 use Rattle.flp_report.specs.declared.fault.BatchFault.{BatchFault}
 use Rattle.flp_report.specs.declared.job_shape.JobShape.{JobShape}
@@ -13,6 +13,7 @@ use Rattle.flp_batch.specs.JobSetting.{JobSetting, IsJobShapeBehind}
 use Rattle.flp_batch.specs.File.{IsJobFile}
 use Rattle.flp_jobs.specs.declared.file.JobFront.{JobFront}
 use Rattle.flp_jobs.specs.declared.file.JobFile.{JobFile}
+use Rattle.flp_jobs.specs.Rules.{JobText}
 use Rattle.flp_jobs.specs.Setting.{IsSetting}
 
 -- what the records of the jobs behind are made by
@@ -20,13 +21,13 @@ abbrev pub setting_behind : JobFront → JobSetting
 setting_behind front = record { params = front.loaded.params; circuit = front.loaded.plan.circuit; shape = front.shape }
 
 -- all that stands in front of the jobs was read, and this is what it says
-pub record OpensJobs (left left' : Option (List ℕ)) (front : JobFront) : Type 0 where
+pub record OpensJobs (written : Bool) (left left' : Option (List ℕ)) (front : JobFront) : Type 0 where
   pub bytes : List ℕ
   pub read : Consumes left left' bytes
   pub head : IsJobHead bytes front.header
   pub limits : IsJobInLimits front.header
   pub text : IsLoaded front.header.text front.loaded.params front.loaded.plan.circuit
-  pub shape : IsJobShapeBehind front.header front.loaded.params front.loaded.plan.circuit front.shape
+  pub shape : IsJobShapeBehind written front.header front.loaded.params front.loaded.plan.circuit front.shape
 
 -- the reader stands in front of the jobs
 pub record IsAtJobs {S : Type 0} (reader : JobReader S) (front : JobFront) : Type 0 where
@@ -45,12 +46,16 @@ IsRefusedBehind shape place jobs left fault =
 abbrev pub setting_of : JobFile → JobSetting
 setting_of file = record { params = file.loaded.params; circuit = file.loaded.plan.circuit; shape = file.shape }
 
--- the input was read to its end and is a job file, and this is what it says
-pub record Reads (left left' : Option (List ℕ)) (file : JobFile) : Type 0 where
+-- a text that is made of its jobs
+abbrev pub text_read : JobText → JobFile → List ℕ
+text_read text file = text (setting_of file) file.header (jobs_in file.jobs)
+
+-- the input was read to its end and is a job file, whose batch is written or not, and this is what it says
+pub record Reads (written : Bool) (left left' : Option (List ℕ)) (file : JobFile) : Type 0 where
   pub bytes : List ℕ
   pub read : Consumes left left' bytes
   pub ended : IsAtEnd left'
-  pub is_file : IsJobFile bytes (setting_of file)
+  pub is_file : IsJobFile written bytes (setting_of file)
   pub header : made_header (job_header_of bytes) ≡ file.header
   pub jobs : jobs_of file.shape bytes ≡ jobs_in file.jobs
 

@@ -4,9 +4,9 @@ use Rattle.std.specs.List.{flat_map, concat}
 use Rattle.flp_meaning.specs.Proof.{honest_proof}
 use Rattle.flp_share.specs.Shares.{shares_of}
 use Rattle.flp_report.specs.declared.job_shape.JobShape.{JobShape}
-use Rattle.flp_report.specs.Job.{job_header_of, made_header, jobs_of}
 use Rattle.flp_report.specs.Layout.{head_bytes, record_bytes}
 use Rattle.flp_batch.specs.JobSetting.{JobSetting}
+use Rattle.flp_jobs.specs.Rules.{JobText, text_on}
 use Rattle.flp_jobs.specs.Encoding.{given_words, job_seeds, job_joint, job_query, job_encoding, job_proofs}
 
 -- the honest proof of this number
@@ -31,6 +31,10 @@ made_words by job =
 abbrev pub record_made : JobSetting → (job : List ℕ) → List ℕ
 record_made by job = record_bytes (take 16 job) None (made_words by job)
 
+-- the batch of these jobs, with this head
+abbrev pub batch_text : JobText
+batch_text by header jobs = head_bytes header ++ concat (map (record_made by) jobs)
+
 -- the batch that is made of a job file
 abbrev pub batch_made : JobSetting → (bytes : List ℕ) → List ℕ
-batch_made by bytes = head_bytes (made_header (job_header_of bytes)) ++ concat (map (record_made by) (jobs_of by.shape bytes))
+batch_made by bytes = text_on batch_text by bytes

@@ -12,9 +12,9 @@ abbrev pub IsCircuitOf : Option Params → Program → Type 0
 IsCircuitOf (Some params) circuit = Fits params × (circuit ≡ standard_program params)
 IsCircuitOf None circuit = ⊤
 
--- the setting of every job file: the circuit is the parameters', and the shape is that of jobs behind some header
+-- the setting of every job file, whose batch is written or not: the circuit is the parameters', and the shape is that of jobs behind some header
 pub record IsSetting (by : JobSetting) : Type 0 where
   pub header : JobHeader
   pub circuit : IsCircuitOf by.params by.circuit
   pub some_shares : 2 ≤ by.shape.shares
-  pub shape : IsJobShapeBehind header by.params by.circuit by.shape
+  pub shape : IsJobShapeBehind by.shape.written header by.params by.circuit by.shape

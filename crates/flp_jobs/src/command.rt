@@ -1,50 +1,34 @@
 //! The command `prove`: from the bytes of a job file to those of a batch.
-ghost use Rattle.std.specs.Prelude.{◌≡◌, ◌≢◌, ◌≤◌, ◌++◌, List, ℕ, Option, None, Err, map, OnOk, IfErr, IfSome, IsErr, IsOk};
+ghost use Rattle.std.specs.Prelude.{◌≡◌, ◌≢◌, None, Err, map, OnOk, IfErr, IsErr, IsOk};
 ghost use Rattle.std.specs.List.{concat};
 ghost use Rattle.std.specs.Io.KnownBytes.{Appends, Keeps};
-ghost use Rattle.flp_io.specs.Faults.{Rose, Uses};
+ghost use Rattle.flp_io.specs.Faults.{Uses};
 ghost use Rattle.flp_io.specs.Writes.{TakesPrefix};
-ghost use Rattle.flp_report.specs.Layout.{head_bytes};
 ghost use Rattle.flp_report.specs.JobParts.{jobs_in};
-ghost use Rattle.flp_report.specs.Reader.{source_of, SameLoan, place_of};
-ghost use Rattle.flp_batch.specs.declared.fault.EngineFault.TheVariants.{Read as ReadFailed, Write as WriteFailed};
-ghost use Rattle.flp_jobs.specs.Fault.{IfJobs};
+ghost use Rattle.flp_batch.specs.declared.fault.EngineFault.TheVariants.{Write as WriteFailed};
+ghost use Rattle.flp_jobs.specs.declared.rules.Joints.TheVariants.{Own};
 ghost use Rattle.flp_jobs.specs.Maker.{IsMadeFor};
 ghost use Rattle.flp_jobs.specs.Place as place;
-ghost use Rattle.flp_jobs.specs.Reading.{setting_of, Reads, IsWhole};
-ghost use Rattle.flp_jobs.specs.Record.{record_made};
-ghost use Rattle.flp_jobs.specs.Reply.{IsRefusal, WritesBatch, StopsInBatch, ProveEnds};
+ghost use Rattle.flp_jobs.specs.Reading.{setting_of, text_read, IsWhole};
+ghost use Rattle.flp_jobs.specs.Record.{record_made, batch_text};
+ghost use Rattle.flp_jobs.specs.Reply.{prove_rules, WritesBatch, StopsInBatch};
+ghost use Rattle.flp_jobs.specs.Rules.{JobsEnd};
 
-use crate::fault::{PlaceFault, ProveFault};
-use crate::file::{JobFile, read_file};
+use crate::fault::ProveFault;
+use crate::file::JobFile;
 use crate::maker::Maker;
+use crate::rules::{Joints, Rules};
+use crate::task::{JobTask, perform};
 use flp_batch::EngineFault;
 use flp_io::{Failed, Sink, Source};
-use flp_report::{JobReader, write_head, write_record};
+use flp_report::{write_head, write_record};
 use std::alloc::Global;
-
-/// The least bad place of a job file, and why it is bad.
-fn bad_place(file: &JobFile, maker: &mut Maker) -> Option<(u32, PlaceFault)>
-    requires whole { IsWhole file.now }
-    requires made { IsMadeFor file.now maker.old }
-    ensures place { result ≡ place.bad_place (setting_of file.now) 0 (jobs_in file.now.jobs) }
-    ensures again { IsMadeFor file.now maker.new }
-{
-    for number in 0..file.header.reports {
-        let job = file.jobs.job_at(number);
-        match maker.place_fault(file, &job) {
-            Some(fault) => return Some((number, fault)),
-            None => {}
-        }
-    }
-    None
-}
 
 /// Makes and writes the records of all jobs, where no place is bad.
 fn write_records<K: Sink>(file: &JobFile, maker: &mut Maker, output: &mut K) -> Result<(), Failed>
     requires whole { IsWhole file.now }
     requires made { IsMadeFor file.now maker.old }
-    requires good { place.bad_place (setting_of file.now) 0 (jobs_in file.now.jobs) ≡ None }
+    requires good { place.bad_place Own (setting_of file.now) (jobs_in file.now.jobs) ≡ None }
     requires writable { K.ready output.old }
     ensures bytes { OnOk result (Appends (K.taken output.old) (K.taken output.new) (concat (map (record_made (setting_of file.now)) (jobs_in file.now.jobs)))) }
 
@@ -53,7 +37,7 @@ fn write_records<K: Sink>(file: &JobFile, maker: &mut Maker, output: &mut K) -> 
     ensures uses { Uses K.faults K.ready output.old output.new (IsErr result) (IsOk result) }
 {
     for number in 0..file.header.reports {
-        let job = file.jobs.job_at(number);
+        let job = file.job(number);
         maker.make(file, &job);
         match write_record(output, job.nonce(), None, maker.words()) {
             Ok(()) => {}
@@ -67,14 +51,12 @@ fn write_records<K: Sink>(file: &JobFile, maker: &mut Maker, output: &mut K) -> 
 fn write_batch<K: Sink>(file: &JobFile, maker: &mut Maker, output: &mut K) -> Result<(), Failed>
     requires whole { IsWhole file.now }
     requires made { IsMadeFor file.now maker.old }
-    requires good { place.bad_place (setting_of file.now) 0 (jobs_in file.now.jobs) ≡ None }
+    requires good { place.bad_place Own (setting_of file.now) (jobs_in file.now.jobs) ≡ None }
     requires writable { K.ready output.old }
-    ensures bytes { OnOk result (Appends (K.taken output.old) (K.taken output.new)
-        (head_bytes file.now.header ++ concat (map (record_made (setting_of file.now)) (jobs_in file.now.jobs)))) }
+    ensures bytes { OnOk result (Appends (K.taken output.old) (K.taken output.new) (text_read batch_text file.now)) }
 
     // At both outcomes.
-    ensures front { TakesPrefix (K.taken output.old) (K.taken output.new)
-        (head_bytes file.now.header ++ concat (map (record_made (setting_of file.now)) (jobs_in file.now.jobs))) }
+    ensures front { TakesPrefix (K.taken output.old) (K.taken output.new) (text_read batch_text file.now) }
     ensures uses { Uses K.faults K.ready output.old output.new (IsErr result) (IsOk result) }
 {
     match write_head(output, &file.header) {
@@ -84,51 +66,35 @@ fn write_batch<K: Sink>(file: &JobFile, maker: &mut Maker, output: &mut K) -> Re
     write_records(file, maker, output)
 }
 
-/// Judges the places of a job file that was read, and writes its batch where none is bad.
-fn prove_jobs<K: Sink>(alloc: Global, file: &JobFile, output: &mut K) -> Result<(), ProveFault>
-    requires whole { IsWhole file.now }
-    requires writable { K.ready output.old }
-    ensures done { OnOk result ((left left' : Option (List ℕ)) → Reads left left' file.now
-        → WritesBatch left left' (K.taken output.old) (K.taken output.new)) }
-    ensures kept { IfErr result (λ fault. fault ≢ ProveFault.File WriteFailed → Keeps (K.taken output.old) (K.taken output.new)) }
-    ensures stopped { result ≡ Err (ProveFault.File WriteFailed) → (left left' : Option (List ℕ)) → Reads left left' file.now
-        → StopsInBatch left left' (K.taken output.old) (K.taken output.new) }
-    ensures fault { IfErr result (λ fault. IfJobs fault (λ f. (left left' : Option (List ℕ)) → Reads left left' file.now
-        → IfSome left (λ bytes. IsRefusal bytes f))) }
-    ensures no_read { result ≢ Err (ProveFault.File ReadFailed) }
+/// The command.
+struct Proves;
 
-    // At every outcome.
-    ensures write { result ≡ Err (ProveFault.File WriteFailed) → Rose (K.faults output.old) (K.faults output.new) }
-    ensures later { K.faults output.old ≤ K.faults output.new }
-{
-    let mut maker = Maker::new(alloc, file)?;
-    if let Some((place, fault)) = bad_place(file, &mut maker) {
-        return Err(ProveFault::Place(place, fault));
-    }
-    match write_batch(file, &mut maker, output) {
-        Ok(()) => Ok(()),
-        Err(_) => Err(ProveFault::File(EngineFault::Write)),
-    }
-}
+impl JobTask for Proves {
+    ghost use Rattle.flp_jobs.specs.Record.{batch_text};
+    ghost use Rattle.flp_jobs.specs.Reply.{prove_rules};
 
-/// Reads a job file and writes the batch that is made of it.
-fn prove_file<S: Source, K: Sink>(
-    alloc: Global,
-    reader: &mut JobReader<'_, S>,
-    output: &mut K,
-) -> Result<(), ProveFault>
-    requires place { place_of reader.old ≡ 0 }
-    requires readable { S.ready (source_of reader.old) }
-    requires writable { K.ready output.old }
-    ensures same { SameLoan reader.old reader.new }
-    ensures done { OnOk result (WritesBatch (S.left (source_of reader.old)) (S.left (source_of reader.new)) (K.taken output.old) (K.taken output.new)) }
-    ensures kept { IfErr result (λ fault. fault ≢ ProveFault.File WriteFailed → Keeps (K.taken output.old) (K.taken output.new)) }
-    ensures stopped { result ≡ Err (ProveFault.File WriteFailed) → StopsInBatch (S.left (source_of reader.old)) (S.left (source_of reader.new)) (K.taken output.old) (K.taken output.new) }
-    ensures ends { ProveEnds (S.left (source_of reader.old)) (S.left (source_of reader.new)) (S.faults (source_of reader.old)) (S.faults (source_of reader.new)) (K.faults output.old) (K.faults output.new) result }
-{
-    match read_file(alloc, reader) {
-        Ok(file) => prove_jobs(alloc, &file, output),
-        Err(fault) => Err(ProveFault::File(fault)),
+    ghost asked = { λ _. prove_rules };
+
+    ghost text = { λ _. batch_text };
+
+    fn rules(&self) -> Rules {
+        Rules {
+            written: true,
+            joints: Joints::Own,
+        }
+    }
+
+    fn write<K: Sink>(
+        &self,
+        alloc: Global,
+        file: &JobFile,
+        output: &mut K,
+    ) -> Result<(), EngineFault> {
+        let mut maker = Maker::new(alloc, file)?;
+        match write_batch(file, &mut maker, output) {
+            Ok(()) => Ok(()),
+            Err(_) => Err(EngineFault::Write),
+        }
     }
 }
 
@@ -149,8 +115,7 @@ pub fn prove<S: Source, K: Sink>(
     ensures done { OnOk result (WritesBatch (S.left input.old) (S.left input.new) (K.taken output.old) (K.taken output.new)) }
     ensures kept { IfErr result (λ fault. fault ≢ ProveFault.File WriteFailed → Keeps (K.taken output.old) (K.taken output.new)) }
     ensures stopped { result ≡ Err (ProveFault.File WriteFailed) → StopsInBatch (S.left input.old) (S.left input.new) (K.taken output.old) (K.taken output.new) }
-    ensures ends { ProveEnds (S.left input.old) (S.left input.new) (S.faults input.old) (S.faults input.new) (K.faults output.old) (K.faults output.new) result }
+    ensures ends { JobsEnd prove_rules (S.left input.old) (S.left input.new) (S.faults input.old) (S.faults input.new) (K.faults output.old) (K.faults output.new) result }
 {
-    let mut reader = JobReader::new(input);
-    prove_file(alloc, &mut reader, output)
+    perform(alloc, &Proves, input, output)
 }

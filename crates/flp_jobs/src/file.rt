@@ -14,11 +14,12 @@ ghost use Rattle.flp_batch.specs.File.{IsFault, TakesFew};
 ghost use Rattle.flp_jobs.specs.Setting.{IsCircuitOf};
 ghost use Rattle.flp_jobs.specs.Reading.{OpensJobs, IsAtJobs, Reads, IsWhole, IsRefusedBehind};
 
+use crate::rules::Joints;
 use flp_batch::EngineFault;
 use flp_circuits::input_len;
 use flp_io::Source;
 use flp_load::{Loaded, load_circuit};
-use flp_report::{Header, JobHeader, JobReader, JobShape, Jobs, ReadFault};
+use flp_report::{Header, Job, JobHeader, JobReader, JobShape, Jobs, ReadFault};
 use std::alloc::Global;
 
 /// What stands in front of the jobs, with the circuit of its text and the shape that this gives to a job.
@@ -32,11 +33,42 @@ pub(crate) struct JobFront {
 /// A job file that was read: the circuit of its text, the shape that this gives to a job, its jobs, and the head of
 /// the batch that is made of it.
 #[derive(Drop)]
-pub(crate) struct JobFile {
-    pub(crate) header: Header,
-    pub(crate) loaded: Loaded,
-    pub(crate) shape: JobShape,
-    pub(crate) jobs: Jobs,
+pub struct JobFile {
+    pub header: Header,
+    pub loaded: Loaded,
+    pub shape: JobShape,
+    pub jobs: Jobs,
+}
+
+impl JobFile {
+    ghost use Rattle.std.specs.Prelude.{◌≡◌, ◌<◌, ℕ, List, Some, slice_get};
+    ghost use Rattle.flp_report.specs.JobParts.{jobs_in, job_of};
+    ghost use Rattle.flp_jobs.specs.Place as place;
+    ghost use Rattle.flp_jobs.specs.Reading.{IsWhole, IsJobOf};
+
+    /// The job of a place, from 0. Its bytes are lent.
+    pub fn job(&self, place: u32) -> Job<'_>
+        requires whole { IsWhole self.now }
+        requires place { place < self.now.header.reports }
+        ensures numbered { slice_get (jobs_in self.now.jobs) place ≡ Some (job_of result) }
+        ensures of_file { IsJobOf self.now result }
+    {
+        self.jobs.job_at(place)
+    }
+
+    /// The job under whose joint words the job of a place is judged.
+    pub(crate) fn judged_under(&self, joints: Joints, number: u32) -> Job<'_>
+        requires whole { IsWhole self.now }
+        requires number { number < self.now.header.reports }
+        ensures under { (job : List ℕ) → slice_get (jobs_in self.now.jobs) number ≡ Some job
+            → job_of result ≡ place.judged_under joints (place.first_job (jobs_in self.now.jobs)) job }
+        ensures of_file { IsJobOf self.now result }
+    {
+        match joints {
+            Joints::Own => self.job(number),
+            Joints::First => self.job(0),
+        }
+    }
 }
 
 /// How many numbers the input of a job has.
@@ -50,12 +82,12 @@ fn input_size(loaded: &Loaded) -> u32
     }
 }
 
-/// The shape of the jobs behind this header, whose text was loaded as this circuit.
-fn shape_of(header: &JobHeader, loaded: &Loaded) -> JobShape
+/// The shape of the jobs behind this header, whose text was loaded as this circuit, and whose batch is written or not.
+fn shape_of(header: &JobHeader, loaded: &Loaded, written: bool) -> JobShape
     requires shares { header.now.shares ≤ 16 }
     requires proofs { header.now.proofs ≤ 16 }
     requires params { IsCircuitOf loaded.now.params loaded.now.plan.circuit }
-    ensures { IsJobShapeBehind header.now loaded.now.params loaded.now.plan.circuit result }
+    ensures { IsJobShapeBehind written header.now loaded.now.params loaded.now.plan.circuit result }
 {
     let lengths = loaded.plan.lengths();
     JobShape {
@@ -68,7 +100,7 @@ fn shape_of(header: &JobHeader, loaded: &Loaded) -> JobShape
         query: lengths.query,
         proof: lengths.proof,
         checked: loaded.params.is_none(),
-        written: true,
+        written,
     }
 }
 
@@ -90,16 +122,20 @@ fn header_made(header: JobHeader) -> Header
 /// Reads what stands in front of the jobs: the head, whose text is loaded as a circuit.
 ///
 /// An error is the first fault of the file up to there; or else [`EngineFault::Read`] or [`EngineFault::Memory`].
-fn open<S: Source>(alloc: Global, reader: &mut JobReader<'_, S>) -> Result<JobFront, EngineFault>
+fn open<S: Source>(
+    alloc: Global,
+    reader: &mut JobReader<'_, S>,
+    written: bool,
+) -> Result<JobFront, EngineFault>
     requires place { place_of reader.old ≡ 0 }
     requires readable { S.ready (source_of reader.old) }
     ensures same { SameLoan reader.old reader.new }
-    ensures opens { IfOk result (OpensJobs (S.left (source_of reader.old)) (S.left (source_of reader.new))) }
+    ensures opens { IfOk result (OpensJobs written (S.left (source_of reader.old)) (S.left (source_of reader.new))) }
     ensures at { IfOk result (IsAtJobs reader.new) }
-    ensures fault { IfErr result (λ fault. IfFile fault (λ f. IfSome (S.left (source_of reader.old)) (λ bytes. IsFault job_files bytes f))) }
+    ensures fault { IfErr result (λ fault. IfFile fault (λ f. IfSome (S.left (source_of reader.old)) (λ bytes. IsFault (job_files written) bytes f))) }
     ensures no_write { result ≢ Err EngineFault.Write }
     ensures source { ReadsFrom S.left S.faults S.ready (source_of reader.old) (source_of reader.new)
-        (ConsumesWithin (front_size job_files)) (result ≡ Err EngineFault.Read) (IsOk result) }
+        (ConsumesWithin (front_size (job_files written))) (result ≡ Err EngineFault.Read) (IsOk result) }
 {
     let header = match reader.head(alloc) {
         Ok(header) => header,
@@ -109,7 +145,7 @@ fn open<S: Source>(alloc: Global, reader: &mut JobReader<'_, S>) -> Result<JobFr
         Ok(loaded) => loaded,
         Err(fault) => return Err(EngineFault::from(fault)),
     };
-    let shape = shape_of(&header, &loaded);
+    let shape = shape_of(&header, &loaded, written);
     Ok(JobFront {
         header,
         loaded,
@@ -152,25 +188,26 @@ fn read_jobs<S: Source>(
     }
 }
 
-/// Reads a job file whole, and loads its text as a circuit.
+/// Reads a job file whole, whose batch is written or not, and loads its text as a circuit.
 ///
 /// An error is the first fault of the file, where that of the circuit comes behind those of the head and in front of
 /// [`flp_report::BatchFault::TooLarge`]; or else [`EngineFault::Read`] or [`EngineFault::Memory`].
 pub(crate) fn read_file<S: Source>(
     alloc: Global,
     reader: &mut JobReader<'_, S>,
+    written: bool,
 ) -> Result<JobFile, EngineFault>
     requires place { place_of reader.old ≡ 0 }
     requires readable { S.ready (source_of reader.old) }
     ensures same { SameLoan reader.old reader.new }
-    ensures reads { IfOk result (Reads (S.left (source_of reader.old)) (S.left (source_of reader.new))) }
+    ensures reads { IfOk result (Reads written (S.left (source_of reader.old)) (S.left (source_of reader.new))) }
     ensures whole { IfOk result IsWhole }
-    ensures fault { IfErr result (λ fault. IfFile fault (λ f. IfSome (S.left (source_of reader.old)) (λ bytes. IsFault job_files bytes f))) }
+    ensures fault { IfErr result (λ fault. IfFile fault (λ f. IfSome (S.left (source_of reader.old)) (λ bytes. IsFault (job_files written) bytes f))) }
     ensures no_write { result ≢ Err EngineFault.Write }
     ensures source { ReadsFrom S.left S.faults S.ready (source_of reader.old) (source_of reader.new)
-        (TakesFew job_files) (result ≡ Err EngineFault.Read) ⊥ }
+        (TakesFew (job_files written)) (result ≡ Err EngineFault.Read) ⊥ }
 {
-    let front = match open(alloc, reader) {
+    let front = match open(alloc, reader, written) {
         Ok(front) => front,
         Err(fault) => return Err(fault),
     };

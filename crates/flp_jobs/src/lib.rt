@@ -1,4 +1,4 @@
-//! The command `prove`: measurements become reports.
+//! Commands over job files, and the command `prove`: measurements become reports.
 //!
 //! A job file has for each report a measurement, or an encoding for a circuit of the text's own, the words of
 //! shares 1 and up, the seeds of the proofs, and their joint and query words. [`prove`] reads such a file whole
@@ -14,21 +14,35 @@
 //! |---|---|
 //! | make the batch of a job file | [`prove`] |
 //! | say why there is none | [`ProveFault`], [`PlaceFault`] |
+//! | run another command over a job file, whose places are judged first | [`perform`], with a [`JobTask`] that has [`Rules`] |
+//! | bring the words of a job of a [`JobFile`] into the field | [`load_encoding`], [`load_joint`], [`load_seeds`], [`load_query`] |
+//! | bring words out of the field | [`write_numbers`] |
 //! | know that no file has two answers, and that a batch is read again as honest reports | [`laws`] |
 //!
 //! Memory is taken for the whole job file, its circuit and one record, before anything is written.
+//!
+//! A command over a job file reads it whole, judges every place, each under the joint words that the command's rules
+//! name, and only then writes: [`prove`] is one of them.
 #![tactic(auto)]
 
 mod command;
 mod fault;
 mod file;
+mod judge;
 pub mod laws;
 mod maker;
-mod place;
+mod parts;
+mod rules;
+mod task;
 mod words;
 
 pub use command::prove;
 pub use fault::{PlaceFault, ProveFault};
+pub use file::JobFile;
+pub use parts::{load_encoding, load_joint, load_query, load_seeds};
+pub use rules::{Joints, Rules};
+pub use task::{JobTask, perform};
+pub use words::write_numbers;
 
 /// Want of memory, as std's allocators answer it.
 pub use std::alloc::AllocError as Memory;

@@ -1,27 +1,24 @@
-//! What judges places and makes records, one after another.
+//! What makes records, one after another.
 ghost use Rattle.std.specs.Prelude.{◌≡◌, None, length, IfOk};
 ghost use Rattle.flp_report.specs.JobParts.{job_of};
 ghost use Rattle.flp_jobs.specs.Maker.{IsMadeFor};
-ghost use Rattle.flp_jobs.specs.Place as place;
+ghost use Rattle.flp_jobs.specs.Encoding.{job_input};
+ghost use Rattle.flp_jobs.specs.Place.{input_fault};
 ghost use Rattle.flp_jobs.specs.Reading.{setting_of, IsWhole, IsJobOf};
 ghost use Rattle.flp_jobs.specs.Record.{made_words};
 
 use crate::Memory;
-use crate::fault::PlaceFault;
 use crate::file::JobFile;
-use crate::place::judge;
 use crate::words::{load_given, write_unshared, write_words};
 use flp_field::Fe;
 use flp_prove::Prover;
-use flp_prove::checks::Checker;
 use flp_report::Job;
 use flp_share::split;
 use std::alloc::Global;
 
-/// Room for judging the places of a job file and for making their records, made once and used for each place.
+/// Room for making the records of a job file, made once and used for each job.
 #[derive(Drop)]
 pub(crate) struct Maker {
-    checker: Checker,
     prover: Prover,
     /// The numbers of an input.
     input: Vec<u64>,
@@ -40,7 +37,7 @@ pub(crate) struct Maker {
 }
 
 impl Maker {
-    /// A maker for a job file. It takes all the memory that judging and making need.
+    /// A maker for a job file. It takes all the memory that making needs.
     pub(crate) fn new(alloc: Global, file: &JobFile) -> Result<Maker, Memory>
         ensures { IfOk result (IsMadeFor file.now) }
     {
@@ -48,7 +45,6 @@ impl Maker {
         let part = shape.part() as usize;
         let shares = shape.shares as usize;
         Ok(Maker {
-            checker: Checker::new(alloc, &file.loaded.plan)?,
             prover: Prover::new(alloc, &file.loaded.plan)?,
             input: vec![in alloc; 0; shape.input as usize]?,
             joint: vec![in alloc; Fe::ZERO; shape.joint as usize]?,
@@ -60,31 +56,12 @@ impl Maker {
         })
     }
 
-    /// Why the place of a job is bad: its measurement is refused, or else a check is not 0, for the least proof and
-    /// then the least check.
-    pub(crate) fn place_fault(&mut self, file: &JobFile, job: &Job) -> Option<PlaceFault>
-        requires whole { IsWhole file.now }
-        requires job { IsJobOf file.now job.now }
-        requires made { IsMadeFor file.now self.old }
-        ensures fault { result ≡ place.place_fault (setting_of file.now) (job_of job.now) }
-        ensures again { IsMadeFor file.now self.new }
-    {
-        judge(
-            file,
-            job,
-            &mut self.input,
-            &mut self.joint,
-            &mut self.checker,
-            &mut self.unshared,
-        )
-    }
-
-    /// Makes the words of the record of a job whose place is not bad.
+    /// Makes the words of the record of a job whose measurement is not refused.
     pub(crate) fn make(&mut self, file: &JobFile, job: &Job)
         requires whole { IsWhole file.now }
         requires job { IsJobOf file.now job.now }
         requires made { IsMadeFor file.now self.old }
-        requires good { place.place_fault (setting_of file.now) (job_of job.now) ≡ None }
+        requires taken { input_fault file.now.loaded.params (job_input file.now.shape (job_of job.now)) ≡ None }
         ensures words { self.new.words.items ≡ made_words (setting_of file.now) (job_of job.now) }
         ensures again { IsMadeFor file.now self.new }
     {

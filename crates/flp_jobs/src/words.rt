@@ -5,26 +5,16 @@ ghost use Rattle.flp_report.specs.Shape.{words_of};
 ghost use Rattle.flp_report.specs.Job.{record_shape, job_part_of};
 ghost use Rattle.flp_report.specs.JobParts.{job_of};
 ghost use Rattle.flp_plan.specs.Sizes.{sizes_of};
-ghost use Rattle.flp_jobs.specs.Encoding.{job_seeds, job_encoding, given_words, job_proofs};
-ghost use Rattle.flp_jobs.specs.Place.{place_fault};
+ghost use Rattle.flp_jobs.specs.Encoding.{job_input, job_encoding, given_words, job_proofs};
+ghost use Rattle.flp_jobs.specs.Place.{input_fault};
 ghost use Rattle.flp_jobs.specs.Reading.{setting_of, IsWhole, IsJobOf};
 ghost use Rattle.flp_jobs.specs.Record.{job_proof, unshared_words, own_words};
 
 use crate::file::JobFile;
-use crate::place::{load_joint, write_encoding};
+use crate::parts::{load_encoding, load_joint, load_seeds};
 use flp_field::Fe;
 use flp_prove::Prover;
 use flp_report::{Job, load, load_numbers};
-
-/// Writes the seeds of a proof to `seeds`, which has a place for each.
-fn load_seeds(file: &JobFile, job: &Job, proof: u32, seeds: &mut [Fe])
-    requires job { IsJobOf file.now job.now }
-    requires proof { proof < file.now.shape.proofs }
-    requires seeds { length seeds.old ≡ file.now.shape.prove }
-    ensures { seeds.new ≡ job_seeds file.now.shape (job_of job.now) proof }
-{
-    load(job.seeds(proof), seeds);
-}
 
 /// Writes the words of shares 1 and up to `given`, which has a place for each.
 pub(crate) fn load_given(file: &JobFile, job: &Job, given: &mut [Fe])
@@ -73,7 +63,7 @@ fn write_proofs(
     }
 }
 
-/// Writes what is shared of a job, whose place is not bad, to `unshared`: its encoding and then its proofs.
+/// Writes what is shared of a job, whose measurement is not refused, to `unshared`: its encoding and then its proofs.
 ///
 /// `input` has a place for each number of the input, `joint` and `seeds` for each joint word and each seed of a
 /// proof.
@@ -88,7 +78,7 @@ pub(crate) fn write_unshared(
 )
     requires whole { IsWhole file.now }
     requires job { IsJobOf file.now job.now }
-    requires good { place_fault (setting_of file.now) (job_of job.now) ≡ None }
+    requires taken { input_fault file.now.loaded.params (job_input file.now.shape (job_of job.now)) ≡ None }
     requires input { length input.old ≡ file.now.shape.input }
     requires joint { length joint.old ≡ file.now.shape.joint }
     requires seeds { length seeds.old ≡ file.now.shape.prove }
@@ -98,14 +88,12 @@ pub(crate) fn write_unshared(
     ensures again { prover.new ≡ prover.old }
 {
     let (x, proofs) = unshared.split_at_mut(file.shape.meas as usize);
-    match write_encoding(file, job, input, x) {
-        Ok(()) => write_proofs(file, job, x, joint, seeds, prover, proofs),
-        Err(_) => unreachable!(),
-    }
+    load_encoding(file, job, input, x);
+    write_proofs(file, job, x, joint, seeds, prover, proofs);
 }
 
 /// Writes words as numbers.
-fn write_numbers(words: &[Fe], numbers: &mut [u64])
+pub fn write_numbers(words: &[Fe], numbers: &mut [u64])
     requires { length words.now ≡ length numbers.old }
     ensures { numbers.new ≡ words.now }
 {

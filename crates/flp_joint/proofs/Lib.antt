@@ -9,3 +9,9 @@ pub mod EncodingLemmas
 pub mod CheckLemmas
 -- which words pass the checks that no joint word enters
 pub mod FixedLemmas
+-- the call of the range check that is named
+pub mod CallLemmas
+-- the range check as a polynomial in one joint word
+pub mod RangeLemmas
+-- what joint words let pass
+pub mod JointLemmas

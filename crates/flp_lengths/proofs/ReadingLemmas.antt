@@ -47,10 +47,10 @@ loaded_short text params circuit loaded =
 -- a text that was read and is loaded is the whole input
 pub reads_circuit :
     (left left' : Option (List ℕ)) (text : List ℕ) (params : Option Params) (circuit : Program) → ReadsText left left' text → IsLoaded text params circuit
-    → ReadsCircuit left left' params circuit
+    → ReadsCircuit left left' text params circuit
 reads_circuit left left' text params circuit read loaded =
     let short = loaded_short text params circuit loaded in
-    record { text = text; read = read; ended = read.ended (omega arith); loaded = loaded }
+    record { read = read; ended = read.ended (omega arith); loaded = loaded }
 
 -- a text that was read and is refused
 pub load_fails :

@@ -20,9 +20,8 @@ pub record ReadsText (left left' : Option (List ℕ)) (text : List ℕ) : Type 0
   pub ended : length text < 65537 → IsAtEnd left'
   pub front : IfSome left (λ bytes. text ≡ judged_text bytes)
 
--- the input was read to its end, and its text is loaded as this circuit
-pub record ReadsCircuit (left left' : Option (List ℕ)) (params : Option Params) (circuit : Program) : Type 0 where
-  pub text : List ℕ
+-- the input was read to its end, it is this text, and the text is loaded as this circuit
+pub record ReadsCircuit (left left' : Option (List ℕ)) (text : List ℕ) (params : Option Params) (circuit : Program) : Type 0 where
   pub read : ReadsText left left' text
   pub ended : IsAtEnd left'
   pub loaded : IsLoaded text params circuit

@@ -12,16 +12,18 @@ use Rattle.flp_lengths.specs.Text.{lengths_text}
 
 -- the input was read to its end and is a circuit, and the output grew by exactly its lengths
 pub record WritesLengths (left left' taken taken' : Option (List ℕ)) : Type 0 where
+  pub text : List ℕ
   pub params : Option Params
   pub circuit : Program
-  pub read : ReadsCircuit left left' params circuit
+  pub read : ReadsCircuit left left' text params circuit
   pub written : Appends taken taken' (lengths_text circuit)
 
 -- the input was read to its end and is a circuit, and the output grew by a prefix of its lengths
 pub record StopsInLengths (left left' taken taken' : Option (List ℕ)) : Type 0 where
+  pub text : List ℕ
   pub params : Option Params
   pub circuit : Program
-  pub read : ReadsCircuit left left' params circuit
+  pub read : ReadsCircuit left left' text params circuit
   pub written : TakesPrefix taken taken' (lengths_text circuit)
 
 -- what was written by the time of this fault: after a failed write a prefix of the lengths, and else nothing

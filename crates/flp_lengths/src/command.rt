@@ -27,8 +27,8 @@ pub fn lengths<S: Source, K: Sink>(
     ensures stopped { IfErr result (λ fault. StopsBy fault (S.left input.old) (S.left input.new) (K.taken output.old) (K.taken output.new)) }
     ensures ends { Ends IsFaultOfText (ConsumesAtMost 65537) (S.left input.old) (S.left input.new) (S.faults input.old) (S.faults input.new) (K.faults output.old) (K.faults output.new) result }
 {
-    let loaded = read_circuit(alloc, input)?;
-    let lines = match make_lines(alloc, &loaded.plan) {
+    let circuit = read_circuit(alloc, input)?;
+    let lines = match make_lines(alloc, &circuit.loaded.plan) {
         Ok(lines) => lines,
         Err(_) => return Err(EngineFault::Memory),
     };

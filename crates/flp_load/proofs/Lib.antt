@@ -4,3 +4,5 @@ pub mod FaultLemmas
 pub mod AnswerLemmas
 -- loaded circuits are within the limits
 pub mod LoadedLemmas
+-- what a standard circuit says of its encodings
+pub mod StandardLemmas

@@ -1,5 +1,5 @@
 -- What prepares the records of a batch for one party.
-use Rattle.std.specs.Prelude.{ℕ, List}
+use Rattle.std.specs.Prelude.{ℕ, List, None}
 use Rattle.std.specs.List.{flat_map}
 use Rattle.flp_worker.specs.Parts.{proof_numbers}
 use Rattle.flp_batch.specs.Setting.{Setting}
@@ -7,9 +7,9 @@ use Rattle.flp_verdict.specs.Judging.{program_of, record_shape_of, old_claims_of
 use Rattle.flp_prep.specs.declared.preparing.Preparing.{Preparing}
 use Rattle.flp_prep.specs.Text.{digits_of}
 
--- what records are judged by
+-- what records are judged by, whatever the parameters of the circuit
 abbrev pub setting_of : Preparing → Setting
-setting_of p = record { circuit = program_of p.judging; shape = record_shape_of p.judging; claims = old_claims_of p.judging }
+setting_of p = record { params = None; circuit = program_of p.judging; shape = record_shape_of p.judging; claims = old_claims_of p.judging }
 
 -- whose share it tells of
 abbrev pub party_of : Preparing → ℕ

@@ -1,5 +1,5 @@
 //! What `prep` makes of each record of a batch.
-ghost use Rattle.std.specs.Prelude.{◌≡◌, ◌++◌, ◌<◌, [], length, IfOk, OnOk};
+ghost use Rattle.std.specs.Prelude.{◌≡◌, ◌++◌, ◌<◌, [], None, length, IfOk, OnOk};
 ghost use Rattle.flp_report.specs.Nonces.{nonces_in};
 ghost use Rattle.flp_worker.specs.Worker.{IsShapeOf};
 ghost use Rattle.flp_verdict.specs.Judging.{record_shape_of};
@@ -37,7 +37,7 @@ impl<'a> Preparing<'a> {
     ) -> Result<Preparing<'a>, Memory>
         requires fits { IsShapeOf plan.now.circuit shape.now }
         requires own_share { party < shape.now.shares }
-        ensures setting { IfOk result (λ p. setting_of p ≡ record { circuit = plan.now.circuit; shape = shape.now; claims = nonces_in claims.now }) }
+        ensures setting { IfOk result (λ p. setting_of p ≡ record { params = None; circuit = plan.now.circuit; shape = shape.now; claims = nonces_in claims.now }) }
         ensures party { IfOk result (λ p. party_of p ≡ party) }
         ensures fresh { IfOk result (λ p. HasPrepared p []) }
     {

@@ -3,7 +3,7 @@
 pub mod Verdicts
 -- the count and the aggregate
 pub mod Totals
--- the text
+-- its lines
 pub mod Text
 -- what follows the lines where policies may withhold the aggregate
 pub mod Release

@@ -11,7 +11,7 @@ use Rattle.flp_known.specs.Claims.{claim_lines}
 use Rattle.flp_policy.specs.Counts.{VerdictCounts, counts_of}
 use Rattle.flp_verdict.specs.Verdicts.{judged, verdicts_of}
 use Rattle.flp_verdict.specs.Totals.{count_of, aggregate_of}
-use Rattle.flp_verdict.specs.Text.{spaced, judged_lines}
+use Rattle.flp_verdict.specs.Text.{aggregate_line, judged_lines}
 
 -- what policies would answer of a bucket after so many more verdicts of each kind there, in their order
 abbrev pub Answers : Type 0
@@ -30,7 +30,7 @@ count_line count = codes "count " ++ decimal count ++ codes "\n"
 
 -- the line of the aggregate, or of the policy that withholds it
 abbrev pub release_line : (withheld : Option ℕ) → (aggregate : List ℕ) → List ℕ
-release_line None aggregate = codes "aggregate" ++ spaced aggregate ++ codes "\n"
+release_line None aggregate = aggregate_line aggregate
 release_line (Some policy) aggregate = codes "withheld " ++ decimal policy ++ codes "\n"
 
 -- the claims, where they are asked for

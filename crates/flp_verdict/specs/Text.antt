@@ -1,14 +1,11 @@
--- The text that `verify` writes of a batch, from a verdict up to the whole text.
+-- The lines that are written of a batch's records, from a verdict up; and the line of the aggregate.
 use Rattle.std.specs.Prelude.{ℕ, List, ◌++◌, codes, decimal}
 use Rattle.std.specs.List.{flat_map}
 use Rattle.hex.specs.Hex.{encode_lower}
-use Rattle.flp_syntax.specs.Tree.{Program}
-use Rattle.flp_report.specs.declared.shape.Shape.{Shape}
 use Rattle.flp_report.specs.Record.{nonce_in}
 use Rattle.flp_policy.specs.declared.verdict.Verdict.{Verdict}
 use Rattle.flp_policy.specs.declared.verdict.Verdict.TheVariants.{Accepted, Rejected, InDomain, Malformed, Replayed}
-use Rattle.flp_verdict.specs.Verdicts.{Judged, judged}
-use Rattle.flp_verdict.specs.Totals.{count_of, aggregate_of}
+use Rattle.flp_verdict.specs.Verdicts.{Judged}
 
 -- how a verdict is spelled
 abbrev pub spelled : Verdict → List ℕ
@@ -38,15 +35,6 @@ judged_lines js = flat_map line_of js
 abbrev pub spaced : List ℕ → List ℕ
 spaced numbers = flat_map (λ n. codes " " ++ decimal n) numbers
 
--- the count line and the aggregate line
-abbrev pub ending_with : ℕ → List ℕ → List ℕ
-ending_with count aggregate = codes "count " ++ decimal count ++ codes "\naggregate" ++ spaced aggregate ++ codes "\n"
-
--- what follows the lines of the records
-abbrev pub ending_of : Program → Shape → List Judged → List ℕ
-ending_of program shape js = ending_with (count_of js) (aggregate_of program shape js)
-
--- the whole text of a batch of these records
-abbrev pub text_of : Program → Shape → (claims reports : List (List ℕ)) → List ℕ
-text_of program shape claims reports =
-    judged_lines (judged program shape claims reports) ++ ending_of program shape (judged program shape claims reports)
+-- the line of the aggregate
+abbrev pub aggregate_line : List ℕ → List ℕ
+aggregate_line aggregate = codes "aggregate" ++ spaced aggregate ++ codes "\n"

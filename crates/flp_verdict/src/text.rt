@@ -1,6 +1,6 @@
 //! The lines of the text, each appended to a buffer.
 ghost use Rattle.std.specs.Prelude.{◌≡◌, ◌++◌, length, decimal, OnOk};
-ghost use Rattle.flp_verdict.specs.Text.{spelled, line_head, line_with, spaced, ending_with};
+ghost use Rattle.flp_verdict.specs.Text.{spelled, line_head, line_with, spaced, aggregate_line};
 
 use crate::Memory;
 use flp_field::Fe;
@@ -71,13 +71,11 @@ fn push_spaced(text: &mut Vec<u8>, numbers: &[Fe]) -> Result<(), Memory>
     Ok(())
 }
 
-/// Appends what follows the lines of all records: how many are accepted, and the words of the aggregate.
-pub fn push_ending(text: &mut Vec<u8>, count: u64, aggregate: &[Fe]) -> Result<(), Memory>
-    ensures { OnOk result (text.new.items ≡ text.old.items ++ ending_with count aggregate.now) }
+/// Appends the line of an aggregate: its words, with one space before each.
+pub fn push_aggregate(text: &mut Vec<u8>, aggregate: &[Fe]) -> Result<(), Memory>
+    ensures { OnOk result (text.new.items ≡ text.old.items ++ aggregate_line aggregate.now) }
 {
-    text.extend_from_slice(b"count ")?;
-    push_number(text, count)?;
-    text.extend_from_slice(b"\naggregate")?;
+    text.extend_from_slice(b"aggregate")?;
     push_spaced(text, aggregate)?;
     text.extend_from_slice(b"\n")?;
     Ok(())

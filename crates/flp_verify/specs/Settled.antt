@@ -35,7 +35,7 @@ use Rattle.flp_verify.specs.Told.{AreTold, beside}
 
 -- what the records behind are judged by, where these are the old claims
 abbrev pub setting_with : Front → (claims : List (List ℕ)) → Setting
-setting_with front claims = record { circuit = front.loaded.plan.circuit; shape = front.shape; claims = claims }
+setting_with front claims = record { params = front.loaded.params; circuit = front.loaded.plan.circuit; shape = front.shape; claims = claims }
 
 -- what was opened
 abbrev pub opened_with : Front → Nonces → Opened

@@ -79,11 +79,7 @@ fn close_into(tally: Tally, seat: Seat, totals: &mut Vec<Fe>)
 }
 
 /// Writes all that follows the lines of the records, through an empty block.
-fn write_ending<K: Sink>(
-    block: &mut Block,
-    sink: &mut K,
-    ending: &Ending<'_>,
-) -> Result<(), Failed>
+fn write_ending<K: Sink>(block: &mut Block, sink: &mut K, ending: &Ending<'_>) -> Result<(), Failed>
     requires ready { K.ready sink.old }
     requires empty { block.old ≡ [] }
     ensures whole { OnOk result (Appends (K.taken sink.old) (K.taken sink.new)

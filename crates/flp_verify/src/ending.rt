@@ -10,6 +10,7 @@ use crate::counted::End;
 use flp_field::Fe;
 use flp_io::{Block, Failed, Sink};
 use flp_known::{Known, put_line, put_piece};
+use flp_verdict::put_spaced;
 
 /// What follows the lines of the records of a batch: how many are accepted, how its release ended, the sums of the outs of these,
 /// and whether what is known is told as claims.
@@ -34,43 +35,6 @@ fn put_number_line<K: Sink>(
 {
     let mut digits = itoa::Buffer::new();
     put_line(block, sink, name, digits.format(number).as_bytes())
-}
-
-/// Puts a number in decimal digits.
-pub(crate) fn put_number<K: Sink>(
-    block: &mut Block,
-    sink: &mut K,
-    number: u64,
-) -> Result<(), Failed>
-    requires { K.ready sink.old }
-    ensures { Puts K.taken K.faults K.ready sink.old sink.new block.old block.new (decimal number) result }
-{
-    let mut digits = itoa::Buffer::new();
-    put_piece(block, sink, digits.format(number).as_bytes())
-}
-
-/// Puts a number with a space before it.
-pub(crate) fn put_spaced_number<K: Sink>(
-    block: &mut Block,
-    sink: &mut K,
-    number: u64,
-) -> Result<(), Failed>
-    requires { K.ready sink.old }
-    ensures { Puts K.taken K.faults K.ready sink.old sink.new block.old block.new (codes " " ++ decimal number) result }
-{
-    put_piece(block, sink, b" ")?;
-    put_number(block, sink, number)
-}
-
-/// Puts numbers, with one space before each.
-fn put_spaced<K: Sink>(block: &mut Block, sink: &mut K, numbers: &[Fe]) -> Result<(), Failed>
-    requires { K.ready sink.old }
-    ensures { Puts K.taken K.faults K.ready sink.old sink.new block.old block.new (spaced numbers.now) result }
-{
-    for number in numbers {
-        put_spaced_number(block, sink, number.value())?;
-    }
-    Ok(())
 }
 
 /// Puts the line of the aggregate.

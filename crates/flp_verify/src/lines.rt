@@ -6,16 +6,16 @@ ghost use Rattle.flp_io.specs.Writes.{TakesPrefix};
 ghost use Rattle.flp_report.specs.Record.{record_of, nonce_in};
 ghost use Rattle.flp_report.specs.Segment.{used_in, records_in};
 ghost use Rattle.flp_round.specs.Crew.{verdicts_of};
-ghost use Rattle.flp_verdict.specs.Text.{spelled, line_head, line_with, judged_lines};
+ghost use Rattle.flp_verdict.specs.Text.{spelled, line_with, judged_lines};
 ghost use Rattle.flp_known.specs.Puts.{Puts};
 ghost use Rattle.flp_verify.specs.Told.{beside};
 
-use crate::ending::{put_number, put_spaced_number};
 use flp_io::{Block, Failed, Sink};
 use flp_known::put_piece;
 use flp_policy::Verdict;
 use flp_report::{Record, Segment};
 use flp_round::Crew;
+use flp_verdict::{put_nonce, put_number, put_spaced_number};
 
 /// Puts how a report in a domain is spelled: the number of the proof and of the gadget.
 fn put_domain<K: Sink>(
@@ -60,25 +60,6 @@ fn put_verdict<K: Sink>(block: &mut Block, sink: &mut K, verdict: Verdict) -> Re
     }
 }
 
-/// Puts a word, and a space behind it.
-fn put_word<K: Sink>(block: &mut Block, sink: &mut K, word: &[u8]) -> Result<(), Failed>
-    requires { K.ready sink.old }
-    ensures { Puts K.taken K.faults K.ready sink.old sink.new block.old block.new (word.now ++ codes " ") result }
-{
-    put_piece(block, sink, word)?;
-    put_piece(block, sink, b" ")
-}
-
-/// Puts how the line of a record begins: its nonce in hexadecimal digits, and a space.
-fn put_nonce<K: Sink>(block: &mut Block, sink: &mut K, given: &Record) -> Result<(), Failed>
-    requires { K.ready sink.old }
-    ensures { Puts K.taken K.faults K.ready sink.old sink.new block.old block.new (line_head (nonce_in (record_of given.now))) result }
-{
-    let mut digits = [0; 32];
-    hex::encode_to_slice(given.nonce(), &mut digits).unwrap();
-    put_word(block, sink, &digits)
-}
-
 /// Puts the line of a record that has this verdict.
 fn put_verdict_line<K: Sink>(
     block: &mut Block,
@@ -89,7 +70,7 @@ fn put_verdict_line<K: Sink>(
     requires { K.ready sink.old }
     ensures { Puts K.taken K.faults K.ready sink.old sink.new block.old block.new (line_with (nonce_in (record_of given.now)) (spelled verdict)) result }
 {
-    put_nonce(block, sink, given)?;
+    put_nonce(block, sink, given.nonce())?;
     put_verdict(block, sink, verdict)?;
     put_piece(block, sink, b"\n")
 }

@@ -16,7 +16,7 @@ use Rattle.flp_meaning.specs.Lengths.{check_words}
 use Rattle.flp_meaning.specs.Proof.{with_proof}
 use Rattle.flp_meaning.specs.Verifier.{combination, check_of}
 use Rattle.flp_weak.specs.AtMost.{AcceptsWith, Bounded}
-use Rattle.flp_weak.proofs.CountLemmas.{at_most_one, at_most_none}
+use Rattle.flp_count.proofs.CountLemmas.{at_most_one, at_most_none}
 use Rattle.flp_weak.proofs.LieLemmas.{accepted-holds}
 
 -- ---- checks are words

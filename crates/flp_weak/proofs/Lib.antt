@@ -1,6 +1,4 @@
 -- The lemmas of counted soundness.
--- counting different things
-pub mod CountLemmas
 -- points at which two polynomials agree
 pub mod RootLemmas
 -- gadgets that lie

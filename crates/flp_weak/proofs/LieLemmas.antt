@@ -28,7 +28,7 @@ use Rattle.flp_meaning.proofs.Decisions.{decisions_mean}
 use Rattle.flp_weak.specs.AtMost.{AcceptsWith, Bounded}
 use Rattle.flp_weak.specs.WeakWord.{gadget_lies}
 use Rattle.flp_weak.specs.Laws.{IsProof}
-use Rattle.flp_weak.proofs.CountLemmas.{at_most-harder}
+use Rattle.flp_count.proofs.CountLemmas.{at_most-harder}
 use Rattle.flp_weak.proofs.RootLemmas.{AgreeAt, few_agree}
 
 -- ---- what an accepted query says

@@ -5,7 +5,7 @@ use Rattle.std.proofs.lemmas.List.{ext_get_or, get_or_past}
 use Rattle.flp_field.specs.Word.{IsWord, AreWords}
 use Rattle.flp_poly.specs.Polynomial.{value_at, HasDegreeAtMost}
 use Rattle.flp_poly.proofs.Vanishing.{agreement}
-use Rattle.flp_weak.specs.AtMost.{AtMost}
+use Rattle.flp_count.specs.Count.{AtMost}
 
 -- a word at which they agree
 pub record AgreeAt (p q : List ℕ) (point : ℕ) : Type 0 where

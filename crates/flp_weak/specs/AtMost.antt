@@ -1,13 +1,10 @@
--- Counting what passes a test. From how many up to which query words are accepted.
-use Rattle.std.specs.Prelude.{ℕ, ◌≡◌, ◌≢◌, ◌≤◌, true, List, length, slice_set, All, AllPairs}
+-- How many values of a query word are accepted, whatever the other query words are.
+use Rattle.std.specs.Prelude.{ℕ, ◌≡◌, true, List, length, slice_set}
+use Rattle.flp_count.specs.Count.{AtMost}
 use Rattle.flp_field.specs.Word.{IsWord}
 use Rattle.flp_syntax.specs.Tree.{Program}
 use Rattle.flp_meaning.specs.Lengths.{lengths_of}
 use Rattle.flp_meaning.specs.Verifier.{accepts}
-
--- each list of different things that all pass the test has at most n members
-abbrev pub AtMost : {A : Type 0} → ℕ → (A → Type 0) → Type 0
-AtMost n Passes = (list : List _) → AllPairs (λ one other. one ≢ other) list → All Passes list → length list ≤ n
 
 -- the proof is accepted with this word in place of the query word of this number
 pub record AcceptsWith (body : Program) (x joint proof query : List ℕ) (number word : ℕ) : Type 0 where

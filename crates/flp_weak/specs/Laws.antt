@@ -1,11 +1,12 @@
 -- Counted soundness as laws. From one proof up to several of one record.
-use Rattle.std.specs.Prelude.{ℕ, ◌≡◌, ◌+◌, ◌-◌, ◌*◌, ◌<◌, ◌≤◌, ◌↔◌, List, [], ◌∷◌, length, None, Some, All}
+use Rattle.std.specs.Prelude.{ℕ, ◌≡◌, ◌+◌, ◌-◌, ◌*◌, ◌<◌, ◌≤◌, ◌↔◌, List, length, None, Some, All}
+use Rattle.flp_count.specs.Count.{AtMost, PassEach, product_of}
 use Rattle.flp_field.specs.Word.{AreWords}
 use Rattle.flp_syntax.specs.Tree.{Program}
 use Rattle.flp_meaning.specs.Circuit.{IsValid}
 use Rattle.flp_meaning.specs.Gadgets.{degree_of, size_of}
 use Rattle.flp_meaning.specs.Lengths.{lengths_of, check_words}
-use Rattle.flp_weak.specs.AtMost.{AtMost, AcceptsWith, Bounded}
+use Rattle.flp_weak.specs.AtMost.{AcceptsWith, Bounded}
 use Rattle.flp_weak.specs.WeakWord.{weak_of}
 use Rattle.flp_weak.specs.declared.word.Weak.{Weak}
 
@@ -54,20 +55,13 @@ pub record IsFalse (body : Program) (x : List ℕ) (given : Challenged) : Type 0
   pub query : length given.query ≡ (lengths_of body).query
   pub weak : weak_of body x given.joint given.proof ≡ Some given.weak
 
--- a choice of one value for the weak word of each proof, with which each is accepted
-abbrev pub IsAccepted : Program → List ℕ → List Challenged → List ℕ → Type 0
-IsAccepted body x [] [] = Unit {0}
-IsAccepted body x [] (value ∷ more) = ⊥
-IsAccepted body x (given ∷ others) [] = ⊥
-IsAccepted body x (given ∷ others) (value ∷ more) =
-    AcceptsWith body x given.joint given.proof given.query given.weak.word value × IsAccepted body x others more
+-- its proof is accepted with this value for its weak word
+abbrev pub AcceptsChoice : Program → (x : List ℕ) → Challenged → (value : ℕ) → Type 0
+AcceptsChoice body x given value = AcceptsWith body x given.joint given.proof given.query given.weak.word value
 
-abbrev pub product_of_bounds : List Challenged → ℕ
-product_of_bounds [] = 1
-product_of_bounds (given ∷ others) = given.weak.bound * product_of_bounds others
-
--- with all other words fixed, the accepted choices are at most the product of the bounds
+-- with all other words fixed, at most the product of the bounds are choices of one value for the weak word of each proof with
+-- which each is accepted
 abbrev pub FewChoices : Program → Type 0
 FewChoices body =
     (x : List ℕ) (proofs : List Challenged) → All (IsFalse body x) proofs
-    → AtMost (product_of_bounds proofs) (IsAccepted body x proofs)
+    → AtMost (product_of (λ given. given.weak.bound) proofs) (PassEach (AcceptsChoice body x) proofs)

@@ -37,14 +37,32 @@ lengths_app = new_app (codes "lengths")
 abbrev pub prep_app : App
 prep_app = with_rule (new_app (codes "prep")) (required_option (codes "party"))
 
--- `explain`
+-- `explain --joint`
 abbrev pub explain_app : App
-explain_app = new_app (codes "explain")
+explain_app = with_rule (new_app (codes "explain")) (flag (codes "joint"))
+
+-- `hide`
+abbrev pub hide_app : App
+hide_app = new_app (codes "hide")
+
+-- `trial --seed X --reports N --workers W`
+abbrev pub trial_app : App
+trial_app =
+    with_rule (with_rule (with_rule (new_app (codes "trial")) (required_option (codes "seed")))
+    (required_option (codes "reports"))) (required_option (codes "workers"))
 
 -- the program, with the first two of its commands
 abbrev pub first_app : App
 first_app = with_subcommand (with_subcommand (new_app (codes "flp")) verify_app.top) prove_app.top
 
+-- with two more
+abbrev pub middle_app : App
+middle_app = with_subcommand (with_subcommand first_app lengths_app.top) prep_app.top
+
+-- with all but one
+abbrev pub last_app : App
+last_app = with_subcommand (with_subcommand middle_app explain_app.top) hide_app.top
+
 -- the program, with a subcommand for each command
 abbrev pub flp_app : App
-flp_app = with_subcommand (with_subcommand (with_subcommand first_app lengths_app.top) prep_app.top) explain_app.top
+flp_app = with_subcommand last_app trial_app.top

@@ -4,17 +4,19 @@ use Rattle.std.specs.Option.{option_map_or}
 use Rattle.std.specs.Str.{bytes_eq}
 use Rattle.clap.specs.Words.{Kinds, Row, Text, fault_of, first_of, subcommand_of}
 use Rattle.flp_words.specs.declared.command.Command.{Command}
-use Rattle.flp_words.specs.declared.command.Command.TheVariants.{Verify, Prove, Lengths, Prep, Explain}
+use Rattle.flp_words.specs.declared.command.Command.TheVariants.{Verify, Prove, Lengths, Prep, Explain, Hide, Trial}
 use Rattle.flp_words.specs.Number.{number_in}
 use Rattle.flp_words.specs.Apps.{flp_app}
 
--- 1 to 16 workers, and a party from 0 to 15
+-- 1 to 16 workers, a party from 0 to 15, and at most 1,000,000 reports of a trial
 abbrev pub IsInRange : Command → Type 0
 IsInRange (Verify workers least claims) = (1 ≤ workers) × (workers ≤ 16)
 IsInRange (Prep party) = party ≤ 15
 IsInRange Prove = ⊤
 IsInRange Lengths = ⊤
-IsInRange Explain = ⊤
+IsInRange (Explain joint) = ⊤
+IsInRange Hide = ⊤
+IsInRange (Trial workers seed reports) = (1 ≤ workers) × (workers ≤ 16) × (reports ≤ 1000000)
 
 -- the number of an option, where it has a value and that is in the range
 abbrev pub number_of : List Row → Text → ℕ → ℕ → Option ℕ
@@ -34,6 +36,16 @@ verify_in rows =
 abbrev pub prep_in : List Row → Option Command
 prep_in rows = option_map Prep (number_of rows (codes "party") 0 15)
 
+-- `trial` with 1 to 16 workers, a seed, and 0 to 1,000,000 reports
+abbrev pub trial_in : List Row → Option Command
+trial_in rows =
+    option_and_then (λ workers. option_and_then (λ seed. option_map (λ reports. Trial workers seed reports)
+    (number_of rows (codes "reports") 0 1000000)) (number_of rows (codes "seed") 0 4294967295)) (number_of rows (codes "workers") 1 16)
+
+-- `explain` with the wish for what joint words tell
+abbrev pub explain_in : List Row → Command
+explain_in rows = Explain (is_given rows (codes "joint"))
+
 -- the command of a name and the matches of its options
 abbrev pub command_by_name : Text → List Row → Option Command
 command_by_name name rows =
@@ -41,8 +53,10 @@ command_by_name name rows =
     else (if bytes_eq name (codes "prove") then Some Prove
     else (if bytes_eq name (codes "lengths") then Some Lengths
     else (if bytes_eq name (codes "prep") then prep_in rows
-    else (if bytes_eq name (codes "explain") then Some Explain
-    else None))))
+    else (if bytes_eq name (codes "explain") then Some (explain_in rows)
+    else (if bytes_eq name (codes "hide") then Some Hide
+    else (if bytes_eq name (codes "trial") then trial_in rows
+    else None))))))
 
 -- the command of the subcommand that `clap` met
 abbrev pub command_at : Option (Text × List Row) → Option Command

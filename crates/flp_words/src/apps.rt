@@ -2,7 +2,7 @@
 ghost use Rattle.std.specs.Prelude.{◌≡◌, IfOk, false};
 ghost use Rattle.clap.specs.Words.{app_of, rule_of};
 ghost use Rattle.clap.specs.declared.builder.command.Command.TheViews.{out-Command as fields_of};
-ghost use Rattle.flp_words.specs.Apps.{value_option, required_option, default_option, flag, verify_app, prep_app, first_app, flp_app};
+ghost use Rattle.flp_words.specs.Apps.{value_option, required_option, default_option, flag, verify_app, prep_app, explain_app, trial_app, first_app, middle_app, last_app, flp_app};
 
 use clap::{Arg, ArgAction, Command};
 use std::alloc::{AllocError, Global};
@@ -58,7 +58,26 @@ fn prep_app<'a>(alloc: Global) -> Result<Command<'a>, AllocError>
     Command::new(alloc, "prep").arg(required_option(alloc, "party"))
 }
 
-/// The program, with the first two of its commands: half of a list that is too long for one proof.
+/// `explain --joint`.
+fn explain_app<'a>(alloc: Global) -> Result<Command<'a>, AllocError>
+    ensures app { IfOk result (λ c. app_of c ≡ explain_app) }
+    ensures local { IfOk result (λ c. (fields_of c).has_globals ≡ false) }
+{
+    Command::new(alloc, "explain").arg(flag(alloc, "joint"))
+}
+
+/// `trial --seed X --reports N --workers W`.
+fn trial_app<'a>(alloc: Global) -> Result<Command<'a>, AllocError>
+    ensures app { IfOk result (λ c. app_of c ≡ trial_app) }
+    ensures local { IfOk result (λ c. (fields_of c).has_globals ≡ false) }
+{
+    Command::new(alloc, "trial")
+        .arg(required_option(alloc, "seed"))?
+        .arg(required_option(alloc, "reports"))?
+        .arg(required_option(alloc, "workers"))
+}
+
+/// The program, with the first two of its commands: a part of a list that is too long for one proof.
 fn first_app<'a>(alloc: Global) -> Result<Command<'a>, AllocError>
     ensures app { IfOk result (λ c. app_of c ≡ first_app) }
 {
@@ -67,12 +86,27 @@ fn first_app<'a>(alloc: Global) -> Result<Command<'a>, AllocError>
         .subcommand(Command::new(alloc, "prove"))
 }
 
+/// With two more.
+fn middle_app<'a>(alloc: Global) -> Result<Command<'a>, AllocError>
+    ensures app { IfOk result (λ c. app_of c ≡ middle_app) }
+{
+    first_app(alloc)?
+        .subcommand(Command::new(alloc, "lengths"))?
+        .subcommand(prep_app(alloc)?)
+}
+
+/// With all but one.
+fn last_app<'a>(alloc: Global) -> Result<Command<'a>, AllocError>
+    ensures app { IfOk result (λ c. app_of c ≡ last_app) }
+{
+    middle_app(alloc)?
+        .subcommand(explain_app(alloc)?)?
+        .subcommand(Command::new(alloc, "hide"))
+}
+
 /// The program, with a subcommand for each command.
 pub fn flp_app<'a>(alloc: Global) -> Result<Command<'a>, AllocError>
     ensures app { IfOk result (λ c. app_of c ≡ flp_app) }
 {
-    first_app(alloc)?
-        .subcommand(Command::new(alloc, "lengths"))?
-        .subcommand(prep_app(alloc)?)?
-        .subcommand(Command::new(alloc, "explain"))
+    last_app(alloc)?.subcommand(trial_app(alloc)?)
 }

@@ -1,7 +1,7 @@
 //! Commands, and the one that the words name.
 ghost use Rattle.std.specs.Prelude.{◌≡◌, ◌≢◌, ◌≤◌, IfOk, IfSome, map, option_map, None};
 ghost use Rattle.clap.specs.Words.{first_of, found_of, kind_of, rows_of, subcommand_rows_of};
-ghost use Rattle.flp_words.specs.Command.{IsInRange, command_in, command_at, command_by_name, number_of, is_given, verify_in, prep_in};
+ghost use Rattle.flp_words.specs.Command.{IsInRange, command_in, command_at, command_by_name, number_of, is_given, verify_in, prep_in, explain_in, trial_in};
 
 use crate::apps::flp_app;
 use crate::number::number_in;
@@ -27,8 +27,23 @@ pub enum Command {
     Lengths,
     /// Make the verifiers of the share of this party, from 0 to 15.
     Prep(u32),
-    /// Say which query word limits each false proof.
-    Explain,
+    /// Say which query word limits each false proof, and, where that is asked for, which joint word catches each false
+    /// encoding.
+    Explain {
+        /// Whether that of the joint words is asked for.
+        joint: bool,
+    },
+    /// Give the seeds for which the proofs of further measurements have the verifiers of the first.
+    Hide,
+    /// Make a batch from a seed, and say how many of its reports have which verdict.
+    Trial {
+        /// How many workers, from 1 to 16.
+        workers: u32,
+        /// The seed.
+        seed: u32,
+        /// How many reports, at most 1,000,000.
+        reports: u32,
+    },
 }
 
 /// The text that an option has.
@@ -73,6 +88,27 @@ fn prep_in(matches: &ArgMatches<'_>) -> Option<Command>
     Some(Command::Prep(number_of(matches, "party", 0, 15)?))
 }
 
+/// `trial`, with the number of its workers, its seed, and how many reports it makes.
+fn trial_in(matches: &ArgMatches<'_>) -> Option<Command>
+    ensures command { result ≡ trial_in (rows_of (found_of matches.now)) }
+    ensures range { IfSome result IsInRange }
+{
+    Some(Command::Trial {
+        workers: number_of(matches, "workers", 1, 16)?,
+        seed: number_of(matches, "seed", 0, u32::MAX)?,
+        reports: number_of(matches, "reports", 0, 1_000_000)?,
+    })
+}
+
+/// `explain`, with the wish for what joint words tell.
+fn explain_in(matches: &ArgMatches<'_>) -> Command
+    ensures { result ≡ explain_in (rows_of (found_of matches.now)) }
+{
+    Command::Explain {
+        joint: is_given(matches, "joint"),
+    }
+}
+
 /// The command of a name and its matches.
 fn command_by_name(name: &str, matches: &ArgMatches<'_>) -> Option<Command>
     ensures command { result ≡ command_by_name name.now (rows_of (found_of matches.now)) }
@@ -83,7 +119,9 @@ fn command_by_name(name: &str, matches: &ArgMatches<'_>) -> Option<Command>
         "prove" => Some(Command::Prove),
         "lengths" => Some(Command::Lengths),
         "prep" => prep_in(matches),
-        "explain" => Some(Command::Explain),
+        "explain" => Some(explain_in(matches)),
+        "hide" => Some(Command::Hide),
+        "trial" => trial_in(matches),
         _ => None,
     }
 }

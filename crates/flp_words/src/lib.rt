@@ -11,9 +11,11 @@
 //! | `prove` | [`Command::Prove`] |
 //! | `lengths` | [`Command::Lengths`] |
 //! | `prep --party K`, K from 0 to 15 | [`Command::Prep`] |
-//! | `explain` | [`Command::Explain`] |
+//! | `explain --joint` | [`Command::Explain`] |
+//! | `hide` | [`Command::Hide`] |
+//! | `trial --seed X --reports N --workers W`, X to 4,294,967,295, N to 1,000,000, W from 1 to 16 | [`Command::Trial`] |
 //!
-//! `--workers` and `--party` must be given; M is 0 where `--min` is not, and `--claims` is a flag without a value.
+//! `--workers`, `--party`, `--seed` and `--reports` must be given; M is 0 where `--min` is not, and `--claims` and `--joint` are flags without a value.
 //!
 //! A further command is one variant of [`Command`], one declaration in `apps.rt` and one line in
 //! `command_by_name`, each with its line in `specs/`.

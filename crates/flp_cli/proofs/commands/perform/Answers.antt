@@ -3,7 +3,11 @@ use Rattle.std.specs.Prelude.{map}
 use Rattle.flp_prep.specs.Text.{prepared_lines}
 use Rattle.flp_explain.specs.Text.{explained_lines}
 use Rattle.flp_cli.proofs.BatchLemmas.{verify-ends, verify-asked, lines-ends}
-use Rattle.flp_cli.proofs.WholeLemmas.{prove-ends, lengths-ends}
+use Rattle.flp_jobs.specs.Record.{batch_text}
+use Rattle.flp_jobs.specs.Reply.{prove_rules}
+use Rattle.flp_reseed.specs.Reply.{hide_rules}
+use Rattle.flp_reseed.specs.Text.{hidden_text}
+use Rattle.flp_cli.proofs.WholeLemmas.{jobs-ends, lengths-ends}
 use Rattle.flp_cli.proofs.commands.perform.Goals as goal
 
 pub returns-in-Verify : goal.returns-in-Verify
@@ -19,7 +23,7 @@ pub returns-in-Prove : goal.returns-in-Prove
 returns-in-Prove g c =
     let answer = c.prove.ensures in
     rw (c.in-Prove.is, c.all_done.ensures)
-    (prove-ends _ _ c.prove.result answer.done answer.kept answer.stopped answer.ends)
+    (jobs-ends prove_rules batch_text _ _ c.prove.result answer.done answer.kept answer.stopped answer.ends)
 
 pub returns-in-Lengths : goal.returns-in-Lengths
 returns-in-Lengths g c =
@@ -34,8 +38,15 @@ returns-in-Prep g c =
     rw (c.in-Prep.is, c.by_file-in-Prep.ensures, c.all_done-in-Prep.ensures)
     (lines-ends (Some party) (prepared_lines party) _ _ c.prep.result answer.done answer.stopped answer.kept answer.settled answer.ends)
 
+pub returns-in-Explain : goal.returns-in-Explain
+returns-in-Explain g c =
+    let answer = c.explain.ensures in
+    let joint = c.in-Explain.joint in
+    rw (c.in-Explain.is, c.by_file-in-Explain.ensures, c.all_done-in-Explain.ensures)
+    (lines-ends None (explained_lines joint) _ _ c.explain.result answer.done answer.stopped answer.kept answer.settled answer.ends)
+
 pub returns : goal.returns
 returns g c =
-    let answer = c.explain.ensures in
-    rw (c.in-Explain.is, c.by_file-in-Explain.ensures, c.all_done-in-Explain.ensures)
-    (lines-ends None explained_lines _ _ c.explain.result answer.done answer.stopped answer.kept answer.settled answer.ends)
+    let answer = c.hide.ensures in
+    rw (c.in-Hide.is, c.all_done-in-Hide.ensures)
+    (jobs-ends hide_rules hidden_text _ _ c.hide.result answer.done answer.kept answer.stopped answer.ends)

@@ -10,25 +10,24 @@ use Rattle.flp_jobs.specs.Reading.{setting_of}
 use Rattle.flp_jobs.specs.Record.{record_made}
 use Rattle.flp_jobs.proofs.PlaceLemmas.{place-good}
 use Rattle.flp_jobs.proofs.RecordLemmas.{made-all, Appends-more, TakesPrefix-made}
-use Rattle.flp_jobs.proofs.FileLemmas.{IsJobOf-numbered, count-jobs}
+use Rattle.flp_jobs.specs.declared.rules.Joints.TheVariants.{Own}
+use Rattle.flp_jobs.proofs.MeasLemmas.{input-taken}
+use Rattle.flp_jobs.proofs.FileLemmas.{count-jobs}
 use Rattle.flp_jobs.proofs.command.write_records.Goals as goal
 
-pub make-requires-clause-job : goal.make-requires-clause-job
-make-requires-clause-job g c =
-    IsJobOf-numbered c.args.file.now c.job_at-job.result c.loop-number.number c.requires.whole c.job_at-job.ensures.shape c.job_at-job.ensures.numbered
-
-pub make-requires-clause-good : goal.make-requires-clause-good
-make-requires-clause-good g c =
+pub make-requires-clause-taken : goal.make-requires-clause-taken
+make-requires-clause-taken g c =
     let file = c.args.file.now in
-    place-good (setting_of file) 0 c.loop-number.number (jobs_in file.jobs) (job_of c.job_at-job.result) c.requires.good c.job_at-job.ensures.numbered
+    let job = job_of c.job-job.result in
+    input-taken (setting_of file) job job c.requires.whole.setting (place-good Own (setting_of file) c.loop-number.number (jobs_in file.jobs) job c.requires.good c.job-job.ensures.numbered)
 
 pub returns-in-Err-clause-front : goal.returns-in-Err-clause-front
 returns-in-Err-clause-front g c =
     let file = c.args.file.now in
-    let job = job_of c.job_at-job.result in
+    let job = job_of c.job-job.result in
     let made : record_bytes c.nonce.result.now None c.words.result.now ≡ record_made (setting_of file) job =
     ap₂ (λ (nonce words : List ℕ). record_bytes nonce None words) c.nonce.ensures (c.words.ensures ∙ c.make.ensures.words) in
-    TakesPrefix-made (record_made (setting_of file)) (jobs_in file.jobs) _ _ _ c.loop-number.number job c.job_at-job.ensures.numbered c.loop-number.invariant.bytes
+    TakesPrefix-made (record_made (setting_of file)) (jobs_in file.jobs) _ _ _ c.loop-number.number job c.job-job.ensures.numbered c.loop-number.invariant.bytes
     (subst (λ (l : List ℕ). TakesPrefix (g.K.Sink.taken c.loop-number.output) (g.K.Sink.taken c.write_record.new.sink) l) made c.write_record.ensures.front)
 
 pub returns-in-Err-clause-uses : goal.returns-in-Err-clause-uses
@@ -40,12 +39,12 @@ returns-clause-uses g c = Uses-as c.loop-number.invariant.uses (λ is. let no : 
 pub loop-number-preserved : goal.loop-number-preserved
 loop-number-preserved g c =
     let file = c.args.file.now in
-    let job = job_of c.job_at-job.result in
+    let job = job_of c.job-job.result in
     let made : record_bytes c.nonce.result.now None c.words.result.now ≡ record_made (setting_of file) job =
     ap₂ (λ (nonce words : List ℕ). record_bytes nonce None words) c.nonce.ensures (c.words.ensures ∙ c.make.ensures.words) in
     record {
       made = c.make.ensures.again;
-      bytes = Appends-more (record_made (setting_of file)) (jobs_in file.jobs) _ _ _ c.loop-number.number job c.job_at-job.ensures.numbered c.loop-number.invariant.bytes
+      bytes = Appends-more (record_made (setting_of file)) (jobs_in file.jobs) _ _ _ c.loop-number.number job c.job-job.ensures.numbered c.loop-number.invariant.bytes
           (subst (λ (l : List ℕ). Appends (g.K.Sink.taken c.loop-number.output) (g.K.Sink.taken c.write_record.new.sink) l) made c.in-Ok.ensures.whole);
       uses = Uses-after c.loop-number.invariant.uses (Uses-as c.in-Ok.ensures.uses (λ no. absurd no) (λ on. refl));
     }

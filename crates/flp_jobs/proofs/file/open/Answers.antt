@@ -16,10 +16,10 @@ use Rattle.flp_jobs.proofs.file.open.Goals as goal
 pub returns-in-Err-load_circuit-clause-fault : goal.returns-in-Err-load_circuit-clause-fault
 returns-in-Err-load_circuit-clause-fault g c =
     let head = c.in-Ok.ensures.bytes in
-    let P : EngineFault → Type 0 = λ e. IfFile e (λ f. IfSome (g.S.Source.left (source_of c.args.reader.now)) (λ bytes. IsFault job_files bytes f)) in
+    let P : EngineFault → Type 0 = λ e. IfFile e (λ f. IfSome (g.S.Source.left (source_of c.args.reader.now)) (λ bytes. IsFault (job_files c.args.written) bytes f)) in
     let Q : List ℕ → Type 0 = λ text. IsLoadFault text c.in-Err-load_circuit.fault in
     let refused = subst Q c.as_slice.ensures c.in-Err-load_circuit.ensures.fault in
-    subst P (sym c.from-in-Err-load_circuit.ensures) (text-refused _ _ head.0 c.in-Ok.header c.in-Err-load_circuit.fault head.2 head.1 refused)
+    subst P (sym c.from-in-Err-load_circuit.ensures) (text-refused c.args.written _ _ head.0 c.in-Ok.header c.in-Err-load_circuit.fault head.2 head.1 refused)
 
 pub returns-in-Err-clause-source : goal.returns-in-Err-clause-source
 returns-in-Err-clause-source g c =

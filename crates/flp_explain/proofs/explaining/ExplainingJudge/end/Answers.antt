@@ -6,5 +6,5 @@ use Rattle.flp_explain.proofs.explaining.ExplainingJudge.end.Goals as goal
 
 pub returns : goal.returns
 returns c = λ records explained.
-    let lines : List ℕ = lines_of (explained_line (setting_of c.args.self.now)) records in
+    let lines : List ℕ = lines_of (explained_line c.args.self.now.joint (setting_of c.args.self.now)) records in
     ap (λ (l : List ℕ). lines ++ l) c.clear.ensures.items ∙ append-nil lines

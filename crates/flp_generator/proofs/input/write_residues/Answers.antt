@@ -1,0 +1,8 @@
+use Rattle.std.proofs.Common.{ℕ, ◌+◌, ◌%◌, ◌<◌, length, arith}
+use Rattle.std.proofs.lemmas.List.FromFn.{fill_by_all}
+use Rattle.flp_generator.proofs.input.write_residues.Goals as goal
+
+pub returns : goal.returns
+returns c =
+    fill_by_all (λ (i : ℕ). (c.args.k + i) % c.args.modulo) c.loop-j.numbers (length c.args.numbers.now) 0 (omega arith)
+    (λ (i : ℕ) (below : i < length c.args.numbers.now). c.loop-j.invariant i (omega arith))

@@ -1,0 +1,18 @@
+-- a batch that is not too large
+mod SizeLemmas
+-- what is known of a batch that was verified in memory
+mod SummaryLemmas
+-- from a circuit's batch to the text of its trial
+mod TryLemmas
+-- what a run says of its input and its output
+mod ReplyLemmas
+-- no input has two replies
+mod LawLemmas
+-- which places are replayed
+mod NonceLemmas
+-- what is found at a place, by the words of its record
+mod FoundLemmas
+-- places where nothing is changed
+mod HonestPlaces
+-- what is found at each place
+mod PlaceLemmas
