@@ -1,5 +1,5 @@
 -- How the reading fails behind the first records, and what is said of a walk then that judged these.
-use Rattle.std.proofs.Common.{◌≡◌, ◌≢◌, ◌⊎◌, inl, inr, Result, Ok, Err, ℕ, ◌+◌, ◌-◌, ◌*◌, ◌/◌, ◌<◌, ◌≤◌, min, Option, Some, List, [], ◌++◌, length, refl, sym, ap, subst, ◌∙◌, arith}
+use Rattle.std.proofs.Common.{◌≡◌, ◌≢◌, ◌⊎◌, inl, inr, Result, Ok, Err, ℕ, ◌+◌, ◌-◌, ◌*◌, ◌/◌, ◌≤◌, min, Option, Some, List, [], ◌++◌, length, sym, ap, subst, ◌∙◌, arith}
 use Rattle.std.specs.Prelude.{All, IfSome, IfErr, OnOk}
 use Rattle.std.specs.List.{concat}
 use Rattle.std.specs.Io.KnownBytes.{Consumes}
@@ -8,7 +8,6 @@ use Rattle.std.proofs.Math.Nat.{mul-le-mul_right}
 use Rattle.flp_io.specs.Faults.{Uses}
 use Rattle.flp_io.specs.Reads.{ConsumesAtMost}
 use Rattle.flp_io.proofs.ReadLemmas.{ConsumesSome-few, ConsumesAtMost-raised}
-use Rattle.flp_report.specs.declared.fault.BatchFault.{BatchFault}
 use Rattle.flp_report.specs.declared.fault.BatchFault.TheVariants.{Trailing}
 use Rattle.flp_report.specs.declared.fault.ReadFault.{ReadFault}
 use Rattle.flp_report.specs.declared.fault.ReadFault.TheVariants as read
@@ -23,7 +22,7 @@ use Rattle.flp_report.specs.Shape.{bytes_of, segment_of}
 use Rattle.flp_report.proofs.KnownLemmas.{IfSome-before, IfSome-map}
 use Rattle.flp_batch.specs.declared.fault.EngineFault.{EngineFault}
 use Rattle.flp_batch.specs.declared.fault.EngineFault.TheVariants.{Memory, Read, Write, Batch, Circuit}
-use Rattle.flp_batch.specs.Among.{IsAmong, IsFaultAmong, SettlesNoMore, Fails}
+use Rattle.flp_batch.specs.Among.{IsAmong, IsFaultAmong, Fails}
 use Rattle.flp_batch.specs.Cut.{settled}
 use Rattle.flp_batch.specs.Ends.{Ends}
 use Rattle.flp_batch.specs.Fault.{fault_from, IfFile, IsOfFront, IsOfInput}

@@ -1,17 +1,14 @@
 -- Which lines stand written where the input has a fault among the records.
 use Rattle.std.proofs.Common.{◌≡◌, ◌≢◌, ◌⊎◌, inl, inr, Result, Ok, Err, ℕ, ◌+◌, ◌-◌, ◌*◌, ◌/◌, ◌<◌, ◌≤◌, min, max, Bool, true, false, Option, Some, None, List, [], ◌∷◌, ◌++◌, length, nat_lt, refl, sym, ap, subst, ◌∙◌, arith, append-nil, length-append}
 use Rattle.std.specs.Prelude.{IfSome, IfErr, OnErr}
-use Rattle.std.specs.List.{concat}
 use Rattle.std.specs.Io.KnownBytes.{Consumes}
-use Rattle.std.proofs.KnownBytes.{Keeps-refl, Consumes-trans}
 use Rattle.std.proofs.Math.Nat.{mul-le-mul_right, div-mul-le_self}
 use Rattle.std.proofs.lemmas.Bool.{ltb-true}
 use Rattle.std.proofs.lemmas.Nat.{div_below}
 use Rattle.flp_io.specs.Reads.{ConsumesAtMost, ConsumesLess}
 use Rattle.flp_io.specs.Writes.{TakesPrefix}
-use Rattle.flp_io.proofs.ReadLemmas.{ConsumesSome-few}
 use Rattle.flp_report.specs.declared.fault.BatchFault.{BatchFault}
-use Rattle.flp_report.specs.declared.fault.BatchFault.TheVariants.{Truncated, Trailing}
+use Rattle.flp_report.specs.declared.fault.BatchFault.TheVariants.{Truncated}
 use Rattle.flp_report.specs.declared.fault.ReadFault.{ReadFault}
 use Rattle.flp_report.specs.declared.fault.ReadFault.TheVariants as read
 use Rattle.flp_report.specs.declared.shape.Shape.{Shape}
@@ -27,11 +24,8 @@ use Rattle.flp_batch.specs.declared.fault.EngineFault.TheVariants.{Memory, Read,
 use Rattle.flp_batch.specs.Cut.{settled}
 use Rattle.flp_batch.specs.Fault.{fault_from, IfFile, IsOfFront, IsOfInput}
 use Rattle.flp_batch.specs.Lines.{lines_from}
-use Rattle.flp_batch.specs.Opened.{records_start, IsRecordsFault}
-use Rattle.flp_batch.specs.declared.front.Opened.{Opened}
-use Rattle.flp_batch.specs.Walk.{JudgesSome, Judges, Settles, Breaks}
-use Rattle.flp_batch.proofs.FaultLemmas.{segment-behind}
-use Rattle.flp_batch.proofs.WalkLemmas.{Stops-none, Stops-before, Stops-within, records-refused}
+use Rattle.flp_batch.specs.Walk.{JudgesSome, Judges, Breaks}
+use Rattle.flp_batch.proofs.WalkLemmas.{Stops-none, Stops-within}
 
 -- ---- numbers
 

@@ -1,5 +1,5 @@
 -- What is printed of a batch that was counted is what follows its lines.
-use Rattle.std.proofs.Common.{◌≡◌, ℕ, ◌+◌, List, [], ◌∷◌, length, map, Bool, true, false, refl, ap, subst, ◌∙◌, arith}
+use Rattle.std.proofs.Common.{◌≡◌, ℕ, ◌+◌, List, [], ◌∷◌, map, Bool, true, false, refl, ap, subst, ◌∙◌, arith}
 use Rattle.std.specs.Prelude.{if◌then◌else◌}
 use Rattle.std.proofs.lemmas.List.FromFn.{length-map-range_with_len}
 use Rattle.flp_tally.specs.declared.view.Entry.{Entry}
@@ -9,7 +9,7 @@ use Rattle.flp_policy.specs.declared.verdict.Verdict.{Verdict}
 use Rattle.flp_policy.specs.declared.verdict.Verdict.TheVariants.{Accepted, Rejected, InDomain, Malformed, Replayed}
 use Rattle.flp_policy.specs.Verdicts.{is_accepted}
 use Rattle.flp_policy.specs.Counts.{VerdictCounts, one_more, counts_of}
-use Rattle.flp_verdict.specs.Verdicts.{Judged, accepted_in}
+use Rattle.flp_verdict.specs.Verdicts.{Judged}
 use Rattle.flp_verdict.specs.Totals.{count_of, aggregate_of}
 use Rattle.flp_verdict.specs.Release.{ending_by}
 use Rattle.flp_verify.specs.Text.{judged_by}

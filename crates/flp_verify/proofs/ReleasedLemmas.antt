@@ -1,5 +1,5 @@
 -- From a batch that was counted, and what was written of its ending, to what is said of the whole text.
-use Rattle.std.proofs.Common.{◌≡◌, ◌≢◌, ◌⊎◌, ◌≤◌, ℕ, List, ◌++◌, Bool, Option, None, Result, Ok, Err, inl, inr, ap, subst, arith}
+use Rattle.std.proofs.Common.{◌≡◌, ◌≢◌, ◌⊎◌, ◌≤◌, ℕ, List, Bool, Option, None, Result, Ok, Err, inl, inr, ap, subst, arith}
 use Rattle.std.specs.Prelude.{OnOk, OnErr, IfOk, IfErr, IfSome}
 use Rattle.std.specs.Io.KnownBytes.{Appends, Keeps}
 use Rattle.std.proofs.KnownBytes.{Appends-trans, Appends-kept}

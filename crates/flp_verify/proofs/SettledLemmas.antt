@@ -1,5 +1,5 @@
 -- What is kept behind records, from that behind the records before a segment of them.
-use Rattle.std.proofs.Common.{◌≡◌, ◌≢◌, ℕ, suc, ◌+◌, Option, None, List, [], ◌∷◌, ◌++◌, length, map, refl, sym, ap, ap₂, subst, ◌∙◌, append_assoc, append-nil, length-append}
+use Rattle.std.proofs.Common.{◌≡◌, ◌≢◌, ℕ, suc, ◌+◌, Option, None, List, [], ◌∷◌, ◌++◌, length, map, refl, sym, ap, subst, ◌∙◌, append_assoc, append-nil, length-append}
 use Rattle.std.specs.Prelude.{IfSome}
 use Rattle.std.specs.Io.KnownBytes.{Appends}
 use Rattle.std.proofs.lemmas.List.{map-append}
@@ -10,7 +10,6 @@ use Rattle.flp_report.specs.Record.{nonce_in}
 use Rattle.flp_known.specs.Order.{with_nonce, with_nonces}
 use Rattle.flp_policy.specs.declared.verdict.Verdict.{Verdict}
 use Rattle.flp_policy.specs.Counts.{VerdictCounts, no_more, counts_of}
-use Rattle.flp_tally.specs.declared.view.View.{View}
 use Rattle.flp_pool.specs.Range.{LacksRange, TakesRange}
 use Rattle.flp_pool.specs.Laws.{EmptyRuns, JoinedRuns}
 use Rattle.flp_batch.specs.Lines.{lines_from}
@@ -23,10 +22,10 @@ use Rattle.flp_verify.specs.declared.engine.Ledger.{Ledger}
 use Rattle.flp_verify.specs.declared.front.Front.{Front}
 use Rattle.flp_verify.specs.declared.room.Room.{Room}
 use Rattle.flp_verify.specs.Rows.{row_in}
-use Rattle.flp_verify.specs.Numbers.{counts_in, places_in}
+use Rattle.flp_verify.specs.Numbers.{counts_in}
 use Rattle.flp_verify.specs.Settled.{IsRoomFor, IsBoardFor, IsBetween, seen_by, Standing, IsBehind, Advances, setting_with, verdicts_from, found_behind, found_lines, found_row}
 use Rattle.flp_verify.specs.Text.{verdict_line}
-use Rattle.flp_verify.specs.Told.{AreTold, beside}
+use Rattle.flp_verify.specs.Told.{AreTold}
 use Rattle.flp_verify.proofs.LineLemmas.{beside-is}
 use Rattle.flp_verify.proofs.MarkLemmas.{knows-more, verdicts-marked}
 use Rattle.flp_verify.proofs.RunLemmas.{takes-more}

@@ -1,5 +1,5 @@
 -- Lists whose elements are told something one after another, by what a test says of each.
-use Rattle.std.proofs.Common.{◌≡◌, ◌≢◌, ℕ, zero, suc, ◌+◌, ◌<◌, ◌≤◌, List, [], ◌∷◌, length, get_or, map, set, Bool, true, false, not, cond, ltb, Option, Some, None, sym, refl, ap, ◌∙◌, arith, get_or-set_same, get_or-set_other, length-set, lt-ltb}
+use Rattle.std.proofs.Common.{◌≡◌, ℕ, zero, suc, ◌+◌, ◌<◌, ◌≤◌, List, ◌∷◌, length, get_or, map, set, Bool, true, false, not, cond, ltb, Some, None, sym, refl, ap, ◌∙◌, arith, get_or-set_same, get_or-set_other, length-set, lt-ltb}
 use Rattle.std.specs.Prelude.{position}
 use Rattle.std.specs.List.{position_or_len}
 use Rattle.std.proofs.lemmas.Bool.Decides.{nat_tests}

@@ -1,6 +1,5 @@
 -- The totals of a tally: as a list, and what the rows of the places of a batch come to.
-use Rattle.std.proofs.Common.{◌≡◌, ℕ, zero, suc, ◌+◌, ◌-◌, ◌%◌, ◌<◌, List, [], ◌∷◌, ◌++◌, length, map, get_or, take, Bool, true, false, Option, Some, None, refl, sym, ap, ap₂, ◌∙◌, arith, sum_by, length-append}
-use Rattle.std.specs.Prelude.{if◌then◌else◌}
+use Rattle.std.proofs.Common.{◌≡◌, ℕ, zero, suc, ◌+◌, ◌-◌, ◌%◌, ◌<◌, List, [], ◌∷◌, ◌++◌, length, map, get_or, take, Bool, true, false, refl, sym, ap, ap₂, ◌∙◌, arith, sum_by, length-append}
 use Rattle.std.specs.List.{range_with_len}
 use Rattle.std.proofs.lemmas.List.{length-map, take-append-le, get_or_append_left}
 use Rattle.std.proofs.lemmas.List.Sums.{sum_by-cons}
@@ -20,7 +19,6 @@ use Rattle.flp_policy.specs.declared.verdict.Verdict.{Verdict}
 use Rattle.flp_policy.specs.declared.verdict.Verdict.TheVariants.{Replayed}
 use Rattle.flp_policy.specs.Verdicts.{is_accepted}
 use Rattle.flp_worker.specs.Verdict.{outs_in}
-use Rattle.flp_batch.specs.Setting.{Setting}
 use Rattle.flp_verdict.specs.Verdicts.{Judged, judged_from, accepted_in, verdict_after}
 use Rattle.flp_verdict.specs.Laws.{report_at, verdict_at}
 use Rattle.flp_verdict.proofs.PlaceLemmas.{at-place}

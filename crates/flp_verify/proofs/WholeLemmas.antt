@@ -1,9 +1,8 @@
 -- From what is kept behind all records to what is known of the whole batch.
-use Rattle.std.proofs.Common.{◌≡◌, ◌≢◌, ℕ, List, ◌∷◌, ◌++◌, length, not, Option, None, Result, Ok, Err, refl, sym, ap, subst, ◌∙◌, arith}
+use Rattle.std.proofs.Common.{◌≡◌, ◌≢◌, ℕ, List, ◌∷◌, length, not, Option, None, Result, Ok, Err, sym, ap, subst, ◌∙◌}
 use Rattle.std.specs.Prelude.{position, IfSome, IfErr}
-use Rattle.std.specs.List.{concat}
-use Rattle.std.specs.Io.KnownBytes.{Appends, Keeps, IsAtEnd}
-use Rattle.std.proofs.KnownBytes.{Keeps-refl, Consumes-trans}
+use Rattle.std.specs.Io.KnownBytes.{Appends, IsAtEnd}
+use Rattle.std.proofs.KnownBytes.{Keeps-refl}
 use Rattle.flp_meaning.specs.Gadgets.{out_count}
 use Rattle.flp_report.specs.declared.nonces.Nonces.{Nonces}
 use Rattle.flp_report.specs.Nonces.{nonces_in}
@@ -17,7 +16,7 @@ use Rattle.flp_batch.specs.declared.fault.EngineFault.TheVariants.{Memory, Read,
 use Rattle.flp_batch.specs.declared.front.Opened.{Opened}
 use Rattle.flp_batch.specs.Ends.{Ends}
 use Rattle.flp_batch.specs.Fault.{IfFile}
-use Rattle.flp_batch.specs.Lines.{Wording, lines_of}
+use Rattle.flp_batch.specs.Lines.{Wording}
 use Rattle.flp_batch.specs.Opened.{setting_of, Opens}
 use Rattle.flp_batch.specs.Reply.{StopsEarly, SettlesEarly}
 use Rattle.flp_batch.specs.Setting.{Setting}

@@ -1,8 +1,8 @@
-use Rattle.std.proofs.Common.{◌≡◌, ◌∙◌, ◌+◌, ◌-◌, ◌*◌, ◌<◌, ◌≤◌, ℕ, Err, min, arith, rules, ap, sym, subst}
+use Rattle.std.proofs.Common.{◌≡◌, ◌∙◌, ◌+◌, ◌-◌, ◌*◌, ℕ, Err, min, arith, rules, ap, sym, subst}
 use Rattle.flp_report.specs.declared.segment.Segment.{Segment}
 use Rattle.flp_report.specs.declared.shape.Shape.{Shape}
 use Rattle.flp_report.specs.Pieces.{IsCut}
-use Rattle.flp_report.specs.Reader.{source_of, shape_given, reports_given, reports_left, reports_read, place_of, size_of_file}
+use Rattle.flp_report.specs.Reader.{source_of, shape_given, reports_read, place_of, size_of_file}
 use Rattle.flp_report.specs.Segment.{shape_in, used_in, held_in, records_in}
 use Rattle.flp_report.specs.Shape.{bytes_of, segment_of}
 use Rattle.flp_report.proofs.SegmentLemmas.{IsCut-held}

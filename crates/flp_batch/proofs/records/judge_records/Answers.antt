@@ -1,9 +1,8 @@
-use Rattle.std.proofs.Common.{◌≡◌, ◌∙◌, ◌+◌, ◌<◌, ◌≤◌, ℕ, Err, min, arith, rules, ap, sym, subst, refl}
-use Rattle.std.proofs.lemmas.Result.{err_from_is_err_and, IfErr-weaker}
-use Rattle.flp_report.specs.Shape.{bytes_of, segment_of}
+use Rattle.std.proofs.Common.{◌≡◌, ◌∙◌, ℕ, Err, min, arith, rules, ap, refl}
+use Rattle.std.proofs.lemmas.Result.{err_from_is_err_and}
+use Rattle.flp_report.specs.Shape.{bytes_of}
 use Rattle.flp_report.specs.Segment.{held_in, records_in}
 use Rattle.flp_report.specs.Reader.{source_of}
-use Rattle.flp_batch.specs.Among.{IsAmong, Fails}
 use Rattle.flp_batch.specs.Lines.{Wording}
 use Rattle.flp_batch.proofs.AmongLemmas.{Fails-breaks, Ends-fails, Ends-lines, Judges-ended, Breaks-ended, Ends-ended}
 use Rattle.flp_batch.proofs.CutLemmas.{write-breaks, memory-breaks, judged-same, front-same}

@@ -1,4 +1,4 @@
-use Rattle.std.proofs.Common.{◌≡◌, ◌-◌, ◌≤◌, ℕ, [], min}
+use Rattle.std.proofs.Common.{◌≡◌, ◌-◌, ◌≤◌, [], min}
 use Rattle.flp_report.specs.Shape.{bytes_of, segment_of}
 use Rattle.flp_report.specs.Segment.{shape_in, room_of}
 use Rattle.flp_report.specs.Reader.{source_of, SameLoan}

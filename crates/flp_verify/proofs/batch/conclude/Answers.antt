@@ -1,5 +1,4 @@
-use Rattle.std.proofs.Common.{◌≡◌, ◌∙◌, refl, rules}
-use Rattle.flp_verify.specs.Settled.{seen_by}
+use Rattle.std.proofs.Common.{◌∙◌, refl}
 use Rattle.flp_verify.proofs.WholeLemmas.{IsCounted-behind}
 use Rattle.flp_verify.proofs.batch.conclude.Goals as goal
 

@@ -1,4 +1,4 @@
-use Rattle.std.proofs.Common.{◌≡◌, Option, List, ℕ, Bool, map, ap, sym, subst, rules}
+use Rattle.std.proofs.Common.{◌≡◌, Option, List, ℕ, map, ap, subst, rules}
 use Rattle.std.specs.Prelude.{IfOk}
 use Rattle.flp_report.specs.Reader.{source_of}
 use Rattle.flp_verify.specs.Reply.{Counts}

@@ -1,9 +1,7 @@
-use Rattle.std.proofs.Common.{◌≡◌, Option, None, List, ℕ, ap, subst}
+use Rattle.std.proofs.Common.{None}
 use Rattle.std.proofs.lemmas.Result.{IfOk-weaker, IfErr-weaker}
 use Rattle.flp_report.specs.Reader.{source_of}
-use Rattle.flp_batch.specs.Reply.{StopsEarly, SettlesEarly}
 use Rattle.flp_batch.proofs.BatchLemmas.{Ends-behind}
-use Rattle.flp_verify.specs.Reply.{CountsRecords, Counts}
 use Rattle.flp_verify.proofs.WholeLemmas.{Counts-behind, stops-early, settles-early}
 use Rattle.flp_verify.proofs.batch.verify_file.Goals as goal
 

@@ -1,4 +1,4 @@
-use Rattle.std.proofs.Common.{◌≡◌, ◌∙◌, ℕ, List, ap, sym, subst, refl}
+use Rattle.std.proofs.Common.{◌≡◌, ◌∙◌, ℕ, List, ap, subst, refl}
 use Rattle.std.specs.Io.KnownBytes.{Appends}
 use Rattle.flp_io.specs.Writes.{TakesPrefix}
 use Rattle.flp_known.specs.Known.{known_in}

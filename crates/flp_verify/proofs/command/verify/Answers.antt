@@ -1,13 +1,8 @@
-use Rattle.std.proofs.Common.{◌≡◌, ℕ, List, None, Err, map, ap, sym, subst, refl, arith}
-use Rattle.std.specs.Prelude.{OnErr, IfOk, IfErr, Result, ◌⊎◌}
+use Rattle.std.proofs.Common.{None, sym, subst}
 use Rattle.std.specs.Io.KnownBytes.{Keeps}
 use Rattle.std.proofs.KnownBytes.{Keeps-refl}
-use Rattle.flp_batch.specs.declared.fault.EngineFault.{EngineFault}
-use Rattle.flp_batch.specs.Fault.{IsOfFront, IsOfInput}
 use Rattle.flp_batch.specs.File.{IsFault, TakesFew}
 use Rattle.flp_batch.specs.Format.{batches}
-use Rattle.flp_batch.specs.Ends.{Ends}
-use Rattle.flp_verify.specs.declared.counted.End.{End}
 use Rattle.flp_verify.proofs.ReleasedLemmas.{released, stopped, no-input, no-front, ends-with}
 use Rattle.flp_verify.proofs.command.verify.Goals as goal
 

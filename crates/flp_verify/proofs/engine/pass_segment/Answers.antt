@@ -3,7 +3,7 @@ use Rattle.std.specs.Prelude.{nat_le}
 use Rattle.std.specs.Vec.{with_items}
 use Rattle.std.proofs.lemmas.List.{with_items_is}
 use Rattle.flp_io.proofs.WriteLemmas.{TakesPrefix-refl}
-use Rattle.flp_report.specs.Segment.{used_in, records_in}
+use Rattle.flp_report.specs.Segment.{records_in}
 use Rattle.flp_report.proofs.SegmentLemmas.{IsCut-held}
 use Rattle.flp_policy.specs.declared.verdict.Verdict.{Verdict}
 use Rattle.flp_policy.specs.Counts.{VerdictCounts, counts_of}
@@ -11,7 +11,6 @@ use Rattle.flp_known.specs.Known.{known_in}
 use Rattle.flp_tally.specs.declared.view.View.{View}
 use Rattle.flp_pool.specs.Range.{LacksRange, TakesRange}
 use Rattle.flp_batch.proofs.OutcomeLemmas.{OnErr-always}
-use Rattle.flp_round.specs.Crew.{verdicts_of}
 use Rattle.flp_round.specs.Findings.{verdicts_by, rows_by, row_from}
 use Rattle.flp_verify.specs.declared.front.Front.{Front}
 use Rattle.flp_verify.specs.Marks.{marks_behind}

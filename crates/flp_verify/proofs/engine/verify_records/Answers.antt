@@ -1,10 +1,8 @@
-use Rattle.std.proofs.Common.{◌≡◌, ◌∙◌, ◌+◌, ◌<◌, ◌≤◌, ℕ, List, length, map, get_or, Err, arith, ap, sym, subst, refl}
+use Rattle.std.proofs.Common.{◌≡◌, ◌∙◌, ℕ, map, get_or, Err, arith, ap, sym, subst, refl}
 use Rattle.std.specs.Prelude.{nat_le}
-use Rattle.flp_report.specs.Buckets.{HasBucket}
 use Rattle.flp_report.specs.Shape.{bytes_of}
 use Rattle.flp_report.specs.Segment.{held_in, records_in}
 use Rattle.flp_report.specs.Reader.{source_of}
-use Rattle.flp_known.specs.Known.{known_in}
 use Rattle.flp_batch.proofs.AmongLemmas.{Fails-breaks, Ends-fails, Ends-lines, Judges-ended, Breaks-ended, Ends-ended}
 use Rattle.flp_batch.proofs.CutLemmas.{write-breaks}
 use Rattle.flp_batch.proofs.OutcomeLemmas.{OnOk-always}

@@ -8,7 +8,6 @@ use Rattle.flp_report.specs.Shape.{words_of}
 use Rattle.flp_report.specs.declared.record.Record.{Record}
 use Rattle.flp_report.specs.Record.{record_of, shape_of, words_in}
 use Rattle.flp_report.specs.Words.{bad_word_in}
-use Rattle.flp_plan.specs.Sizes.{sizes_of}
 use Rattle.flp_worker.specs.Verdict.{all_hold}
 use Rattle.flp_worker.specs.Worker.{Working}
 use Rattle.flp_worker.proofs.PartLemmas.{length-words_in}
