@@ -113,9 +113,7 @@ fn perform<R: Threads + Sync, S: Source, K: Sink, G: Gate>(
             workers,
             seed,
             reports,
-        } => by_file(all_done(trial(
-            rt, alloc, input, output, seed, reports, workers, gate,
-        ))),
+        } => by_file(all_done(trial(rt, alloc, input, output, seed, reports, workers, gate))),
     }
 }
 
