@@ -152,14 +152,15 @@ module _ (params : Option Params) (circuit : Program) (is : IsCircuitOf params c
       let k : ℕ = check_words circuit + (length circuit.gadgets - 1) in
       let index : ℕ = place * taken_by_place lengths + (lengths.joint + (lengths.prove + (part_of lengths + k))) in
       let queries : lengths.query ≡ check_words circuit + length circuit.gadgets = refl in
-      let is-power : slice_index query k ≡ sequence_word seed index = query-word params circuit is bounded seed place k (omega (arith, queries, bounded.some_gadget)) in
-      ((λ none. power-some 7 (seed + 1 + index) (omega arith) (λ zero. let never : 7 ≡ 0 = zero in omega (arith, never)) (sym is-power ∙ none)),
-      subst IsWord (sym is-power) (mod_word (7 ^ (seed + 1 + index))))
+      let is-power : slice_index query k ≡ sequence_word seed index = query-word params circuit is bounded seed place k (omega (arith, queries, bounded.some_gadget)) in (
+        (λ none. power-some 7 (seed + 1 + index) (omega arith) (λ zero. let never : 7 ≡ 0 = zero in omega (arith, never)) (sym is-power ∙ none)),
+        subst IsWord (sym is-power) (mod_word (7 ^ (seed + 1 + index))),
+      )
 
   refused : CallsStand circuit → proof_holds circuit shape changed 0 ≡ false
   refused stand =
       let same : accepts circuit (unshared_encoding shape changed) (joint_words shape changed 0) (unshared_proof shape changed 0) (query_words shape changed 0)
-          ≡ accepts circuit x joint (raised proof) query =
+      ≡ accepts circuit x joint (raised proof) query =
       λ i. accepts circuit ((same-encoding ∙ kept-encoding params circuit is bounded seed place) i) (same-joint i) (raised-proof i) (same-query i) in
       same ∙ raised-refused circuit x joint (seeds_taken lengths taken) query bounded (are_seeds params circuit is bounded seed place) stand point-some.1 point-some.0
 
