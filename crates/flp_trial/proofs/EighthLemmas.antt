@@ -57,5 +57,5 @@ counts-more (suc n) start first =
 pub counts-eighths : (n : ℕ) (vs : List Verdict) → length vs ≡ 8 * n → ((i : ℕ) → i < 8 * n → slice_index_or vs i Replayed ≡ verdict_by_eighth (i % 8)) → counts_of vs ≡ counts_of_eighths n
 counts-eighths n vs size each =
     let f : ℕ → Verdict = λ place. verdict_by_eighth (place % 8) in
-    ap counts_of (list-of f 0 vs (λ i below. each i (omega (arith, below, size))) ∙ ap (λ (m : ℕ). map f (range_with_len 0 m)) size)
+    ap counts_of (list-of f 0 vs (λ i below. let at : i ≡ 0 + i = omega arith in each i (omega (arith, below, size)) ∙ ap f at) ∙ ap (λ (m : ℕ). map f (range_with_len 0 m)) size)
     ∙ counts-more n 0 (omega arith)
