@@ -2,7 +2,7 @@
 use Rattle.std.proofs.Common.{ℕ, ◌+◌, ◌*◌, ◌≡◌, true, false, List, [], ◌∷◌, ◌++◌, length, map, ap, ap₂, ◌∙◌, refl}
 use Rattle.flp_syntax.specs.declared.syntax.Params.{Params}
 use Rattle.flp_syntax.specs.declared.syntax.Params.TheVariants.{Count, Sum, SumVec, Histogram, Multihot}
-use Rattle.flp_syntax.specs.Tree.{Statement, Statements, statements, check, out, add, items, call, one, arguments, meas, index_var, Declaration, Program, psum_kind, mul_kind, poly_kind}
+use Rattle.flp_syntax.specs.Tree.{Statement, statements, check, out, add, items, call, one, arguments, meas, index_var, psum_kind, mul_kind, poly_kind}
 use Rattle.flp_syntax.specs.Scope.{inside, turns}
 use Rattle.flp_meaning.specs.Meaning.{Call, Run, map_run, in_turn, total, Reading, Results, no_results, join_results, one_check, all_results, meaning, statements_of}
 use Rattle.flp_meaning.specs.Circuit.{calls_of, direct, with_answers}

@@ -1,5 +1,5 @@
 -- An honest proof whose last word is raised is refused, where no answer enters the inputs of a call.
-use Rattle.std.proofs.Common.{ℕ, zero, suc, ◌≡◌, ◌≢◌, ◌+◌, ◌-◌, ◌*◌, ◌%◌, ◌^◌, ◌<◌, ◌≤◌, Bool, true, false, List, [], ◌∷◌, length, take, drop, set, slice_index, Option, Some, None, refl, sym, ap, ap₂, subst, ◌∙◌, arith, ⊎_elim}
+use Rattle.std.proofs.Common.{ℕ, zero, suc, ◌≡◌, ◌≢◌, ◌+◌, ◌-◌, ◌*◌, ◌%◌, ◌^◌, ◌<◌, Bool, true, false, List, [], ◌∷◌, length, take, drop, set, slice_index, Option, Some, None, refl, sym, ap, ap₂, subst, ◌∙◌, arith, ⊎_elim}
 use Rattle.std.proofs.Math.Nat.{pow-suc, pow-zero}
 use Rattle.std.proofs.Math.Seq.{take-set-lt}
 use Rattle.std.proofs.lemmas.List.{drop-set-add, take-set-le, get_or-take, get_or-drop}
@@ -10,11 +10,11 @@ use Rattle.flp_poly.specs.Polynomial.{sum_of_terms, value_at}
 use Rattle.flp_gadget.specs.KindTree.{formula_of}
 use Rattle.flp_syntax.specs.Tree.{Program}
 use Rattle.flp_meaning.specs.Meaning.{Call}
-use Rattle.flp_meaning.specs.Circuit.{kind_of, calls_of, direct}
+use Rattle.flp_meaning.specs.Circuit.{kind_of}
 use Rattle.flp_meaning.specs.Gadgets.{arity_of}
 use Rattle.flp_meaning.specs.Lengths.{start_of, coefficient_count, proof_part}
 use Rattle.flp_meaning.specs.Wires.{wires_of}
-use Rattle.flp_meaning.specs.Proof.{seeds_in, polynomial_in, seeds_for, honest_proof, answers_in, with_proof, formula_in}
+use Rattle.flp_meaning.specs.Proof.{seeds_in, polynomial_in, honest_proof, answers_in, formula_in}
 use Rattle.flp_meaning.specs.ProofLaws.{IsBounded, AreSeeds, Holds}
 use Rattle.flp_meaning.specs.Verifier.{point_of, answer_from, is_taken, decides, accepts, gadget_in_domain, verifier_words}
 use Rattle.flp_meaning.proofs.PartLemmas.{length-words_at}

@@ -1,17 +1,15 @@
 -- A place of a trial where the proof is changed: the last word of its honest proof is one more, and so it is rejected, where no
 -- answer enters the inputs of a call.
-use Rattle.std.proofs.Common.{ℕ, ◌≡◌, ◌≢◌, ◌+◌, ◌-◌, ◌*◌, ◌%◌, ◌^◌, ◌<◌, ◌≤◌, Bool, true, false, ◌&&◌, List, [], ◌∷◌, length, take, drop, set, slice_index, Option, None, refl, sym, ap, ap₂, subst, ◌∙◌, arith}
-use Rattle.std.specs.List.{range_with_len}
+use Rattle.std.proofs.Common.{ℕ, ◌≡◌, ◌≢◌, ◌+◌, ◌-◌, ◌*◌, ◌^◌, ◌<◌, ◌≤◌, Bool, true, false, ◌&&◌, List, [], ◌∷◌, length, take, drop, set, slice_index, Option, None, refl, sym, ap, ap₂, subst, ◌∙◌, arith}
 use Rattle.std.proofs.Math.Seq.{take-set-lt}
 use Rattle.std.proofs.lemmas.List.{length-set, drop-set-lt, drop-set-add, take-set-le, get_or-take, get_or-drop}
 use Rattle.std.proofs.lemmas.List.Elements.{All-set}
-use Rattle.flp_field.specs.Word.{modulus, IsWord, AreWords, word_sum}
+use Rattle.flp_field.specs.Word.{IsWord, AreWords, word_sum}
 use Rattle.flp_field.specs.Sums.{sum_of_lists}
 use Rattle.flp_field.proofs.Congruence.{mod_word}
 use Rattle.flp_field.proofs.WordLists.{none-from_words}
 use Rattle.flp_syntax.specs.declared.syntax.Params.{Params}
 use Rattle.flp_syntax.specs.Tree.{Program}
-use Rattle.flp_meaning.specs.Gadgets.{gadgets_of}
 use Rattle.flp_meaning.specs.Lengths.{check_words, proof_part}
 use Rattle.flp_meaning.specs.Proof.{words_at, honest_proof}
 use Rattle.flp_meaning.specs.ProofLaws.{IsBounded}
