@@ -108,7 +108,8 @@ fn first_lying(
     requires proof { length proof.now ≡ (counted_lengths plan.now.circuit).proof }
     requires made { room.old ≡ sizes_of plan.now }
     requires formula { length formula.old ≡ 32761 }
-    ensures { (joint : List ℕ) → reading.now.publics.now ≡ publics_of plan.now joint → result ≡ weak.lying_gadget plan.now.circuit reading.now.x.now joint proof.now }
+    ensures gadget { (joint : List ℕ) → reading.now.publics.now ≡ publics_of plan.now joint → result ≡ weak.lying_gadget plan.now.circuit reading.now.x.now joint proof.now }
+    ensures again { room.new ≡ room.old }
 {
     for gadget in 0..plan.gadgets() {
         if gadget_lies(plan, gadget, reading, proof, room, formula) {
