@@ -3,8 +3,8 @@
 # the gate, and prints for each how many were refused and how the runs ended.
 #
 # A run in which a request is refused must end with status 3, the line `flp: no memory`, and what its command may have
-# written by then: nothing, for `prove` and `lengths`; and else the lines of whole segments, or all lines. Where a
-# thread can't be started its work is done by another, so a run may also end as if nothing had been refused.
+# written by then: of the commands on batches the lines of whole segments, or all lines; else nothing. Where a thread
+# can't be started its work is done by another, so a run may also end as if nothing had been refused.
 #
 # The requests are those that the program itself makes of the C library (malloc, calloc, realloc, aligned_alloc); a
 # small library that cc compiles is loaded before the C library and refuses the one that REFUSE numbers. FLP names the
@@ -84,26 +84,33 @@ void *calloc(size_t count, size_t size) {
 PROGRAM
 cc -O1 -fPIC -shared -o "$room/refuse.so" "$room/refuse.c" -ldl
 
-# 1,500 reports of a count behind two old claims: two segments
-python3 - "$data/claimed.batch" "$room/segments.batch" <<'PROGRAM'
+# 1,500 reports of a count behind two old claims, which are two segments; and two places in three shares with two proofs
+python3 - "$data" "$room" <<'PROGRAM'
 import sys
 
-batch = open(sys.argv[1], "rb").read()
+data, room = sys.argv[1:]
+batch = open(f"{data}/claimed.batch", "rb").read()
 start = 32 + 10 + 32
 record = batch[start : start + 120]
-with open(sys.argv[2], "wb") as file:
+with open(f"{room}/segments.batch", "wb") as file:
     file.write(batch[:28] + (1500).to_bytes(4, "little") + batch[32:start])
     for number in range(1500):
         file.write(number.to_bytes(16, "big") + record[16:])
+jobs = open(f"{data}/shares.job", "rb").read()
+start = 28 + int.from_bytes(jobs[20:24], "little")
+with open(f"{room}/places.job", "wb") as file:
+    file.write(jobs[:24] + (2).to_bytes(4, "little") + jobs[28:] + bytes(16) + jobs[start + 16 :])
 PROGRAM
 
-# The lengths that what was written behind a refusal may have: the lines of whole segments, or all lines.
+# The lengths that what was written behind a refusal may have: of the commands on batches those of whole segments, and
+# all lines of reports. A segment has 1,024 reports, and each may have several lines.
 may_stand() {
-  if [ "$1" = prove ] || [ "$1" = lengths ]; then
-    echo 0
-  else
-    awk -v bytes=0 '/^[0-9a-f]+ /{ if (NR % 1024 == 1) print bytes; bytes += length($0) + 1 } END { print bytes }' "$2"
-  fi
+  case "$1" in
+    verify | prep | explain)
+      awk '/^[0-9a-f]+ / { if ($1 != last && count++ % 1024 == 0) print bytes + 0; last = $1; bytes += length($0) + 1 }
+        END { print bytes + 0 }' "$2" ;;
+    *) echo 0 ;;
+  esac
 }
 
 run() {
@@ -163,11 +170,16 @@ on() {
 echo '| command | input | status where none is refused | refused: status 3 | refused and answered all the same |'
 echo '|---|---|---|---|---|'
 batches=(shares.batch rating.batch truncated.batch "$room/segments.batch")
-for line in 'verify --workers 1' 'verify --workers 4' 'verify --workers 2 --min 2 --claims' 'prep --party 1' explain; do
+for line in 'verify --workers 1' 'verify --workers 4' 'verify --workers 2 --min 2 --claims' 'prep --party 1' explain \
+  'explain --joint'; do
   read -ra words <<<"$line"
   on "${batches[@]}"
 done
-words=(prove)
-on shares.job body.job check.job multihot.job
-words=(lengths)
-on histogram.circuit rating.circuit body.circuit multihot.circuit
+for line in prove hide; do
+  words=("$line")
+  on "$room/places.job" body.job check.job multihot.job
+done
+for line in lengths 'trial --seed 1 --reports 40 --workers 1' 'trial --seed 1 --reports 40 --workers 4'; do
+  read -ra words <<<"$line"
+  on histogram.circuit rating.circuit body.circuit multihot.circuit
+done
