@@ -107,7 +107,7 @@ PROGRAM
 may_stand() {
   case "$1" in
     verify | prep | explain)
-      awk '/^[0-9a-f]+ / { if ($1 != last && count++ % 1024 == 0) print bytes + 0; last = $1; bytes += length($0) + 1 }
+      awk '/^[0-9a-f]+ / { if ("x" $1 != last && count++ % 1024 == 0) print bytes + 0; last = "x" $1; bytes += length($0) + 1 }
         END { print bytes + 0 }' "$2" ;;
     *) echo 0 ;;
   esac
