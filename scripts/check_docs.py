@@ -1,10 +1,11 @@
 #!/usr/bin/env python3
 """Checks the documents: dumps and words against the files that they show, the table of crates and the pictures against
-crates.txt, answers against the built program.
+crates.txt, the one line of the version, answers against the built program.
 
     check_docs.py [PROGRAM]         PROGRAM is crates/flp/out/flp where it is not given; where it is not built, the
                                     answers are skipped
 """
+import glob
 import os
 import re
 import struct
@@ -84,6 +85,14 @@ def check_table(text):
             faults.append(f"the table of crates, {layer}: {', '.join(sorted(differ))}")
 
 
+def check_version():
+    """The version stands in one line, at the head of the changes."""
+    names = [*glob.glob("*.md", root_dir=TOP), *glob.glob("docs/*.md", root_dir=TOP), *glob.glob("*/*/*.md", root_dir=TOP)]
+    found = [name for name in names for _ in re.findall(r"^Version \d[\d.]*\.", read(name), re.M)]
+    if found != ["CHANGELOG.md"] or not re.match(r"# Changes\n\nVersion \d", read("CHANGELOG.md")):
+        faults.append(f"the version stands in: {', '.join(found) or 'no document'}")
+
+
 def check_pictures():
     for name, drawn in draw.PICTURES.items():
         if read(f"docs/{name}.svg") != drawn():
@@ -150,6 +159,7 @@ def main():
     check_words(formats)
     check_table(read("docs/PROMISES.md"))
     check_pictures()
+    check_version()
     program = sys.argv[1] if len(sys.argv) > 1 else os.path.join(TOP, "crates", "flp", "out", "flp")
     if os.path.exists(program):
         check_refusals(program, circuits)
