@@ -134,6 +134,29 @@ def check_first_screen(program, text):
         faults.append("the first screen of README.md")
 
 
+def check_trials(program, readme, formats):
+    """What `trial` prints, in the README and in the formats."""
+    shown = r"^rt try -- (trial [^<]*) < \S*/([\w.]+)\n```\n\nprints[^\n]*\n\n```\n(.*?)```"
+    found = [(words, content_of(f"crates/flp_cases/data/{name}"), block)
+             for words, name, block in re.findall(shown, readme, re.S | re.M)]
+    shown = r"^Of `(use [^`]*;)`, with the seed (\d+) and ([\d,]+) reports[^\n]*:\n\n```\n(.*?)```"
+    found += [(f"trial --seed {seed} --reports {reports.replace(',', '')} --workers 2", circuit, block)
+              for circuit, seed, reports, block in re.findall(shown, formats, re.S | re.M)]
+    for words, circuit, block in found:
+        if answer(program, words.split(), circuit).stdout.decode() != block:
+            faults.append(f"flp {words}")
+    if len(found) != 2:
+        faults.append("a trial of README.md or docs/FORMATS.md is not found")
+
+
+def check_usage(program, formats):
+    """The line where the words name no command."""
+    [line] = re.findall(r"^\| 2 \|.*`(usage: [^`]*)` \|$", formats, re.M)
+    ended = answer(program, [], b"")
+    if (ended.returncode, ended.stderr.decode()) != (2, f"flp: {line}\n"):
+        faults.append("the line of status 2")
+
+
 def check_refusals(program, text):
     """The table of bodies behind one declaration: a text, and the words that refuse it."""
     front = re.search(r"Behind `([^`]*)`, which is tokens", text).group(1)
@@ -167,6 +190,8 @@ def main():
         check_printed(program, formats)
         check_bodies(program, circuits)
         check_first_screen(program, read("README.md"))
+        check_trials(program, read("README.md"), formats)
+        check_usage(program, formats)
     else:
         print(f"skipped, since {program} is not built: what the program answers")
     print("\n".join(faults) or "the documents' examples are as they are shown")

@@ -5,9 +5,9 @@ the gate, and prints for each how many were refused and how the runs ended.
     fail_alloc.py [--at-once J] [WORD]          with WORD only the commands that begin with it
 
 A run in which a request is refused must end with status 3, the line `flp: no memory`, and what its command may have
-written by then: of the commands on batches the lines of whole segments, or all lines of reports; else nothing. Where a
-thread can't be started its work is done by another, so a run may also end as if nothing had been refused. Of the workers'
-requests it is not the same one each time that has a number.
+written by then: of `verify` the lines of whole segments, or of all reports; of `prep` and `explain` the lines of whole
+reports, as many as filled a block; else nothing. Where a thread can't be started its work is done by another, so a run
+may also end as if nothing had been refused. Of several workers' requests another one may have a number each time.
 
 The requests are those that the program itself makes of the C library; refuse.c, which cc compiles, refuses one of them.
 J runs (2) are made at once. FLP names the program where it is not crates/flp/out/flp.
@@ -77,19 +77,20 @@ def run(words, given, library=None, number=0, met=""):
 
 
 def may_stand(command, whole):
-    """What may stand written behind a refusal."""
+    """How many bytes of the whole text may stand written behind a refusal."""
     if command not in ("verify", "prep", "explain"):
-        return {b""}
-    reports, stand, last = 0, {b""}, None
-    lines = [line for line in whole.splitlines(True) if len(line) > 33 and line[32:33] == b" "]
-    front = b""
-    for line in lines:
+        return {0}
+    each = SEGMENT if command == "verify" else 1
+    reports, size, last, stand = 0, 0, None, {0}
+    for line in whole.splitlines(True):
+        if line[32:33] != b" ":
+            break
         if line[:32] != last:
-            if reports % SEGMENT == 0:
-                stand.add(front)
+            if reports % each == 0:
+                stand.add(size)
             reports, last = reports + 1, line[:32]
-        front += line
-    return stand | {front}
+        size += len(line)
+    return stand | {size}
 
 
 def refused(words, given, library, whole, stand, number):
@@ -99,7 +100,8 @@ def refused(words, given, library, whole, stand, number):
         ended = run(words, given, library, number, met)
         if not os.path.exists(met):
             return None
-    if (ended.status, ended.said) == (3, b"flp: no memory\n") and ended.out in stand:
+    told = (ended.status, ended.said) == (3, b"flp: no memory\n")
+    if told and len(ended.out) in stand and whole.out.startswith(ended.out):
         return "told"
     return "answered" if ended == whole else f"request {number} refused: {ended.status}, {len(ended.out)} bytes, {ended.said}"
 

@@ -9,7 +9,7 @@ whole and with a word changed. What is checked needs no second verifier (rules.p
 on what was written, verdicts as far as nonces and words below p decide them, the same answer for 1 and 4 workers, what
 `--min`, `--claims`, `prep`, `explain` and `--joint` say beside `verify`; that honest reports are accepted, summed up
 and, with a changed word, not; that what `hide` prints leads back to the first place's seeds and has its verifier; and
-the numbers of `trial`. A run has 10 seconds and 1 GiB. An input that breaks a rule is kept in FOLDER (fuzz-found) and
+the numbers of `trial`. A run has 10 seconds of a processor and 1 GiB. An input that breaks a rule is kept in FOLDER (fuzz-found) and
 named; the exit status is then 1. FLP names the program where it is not crates/flp/out/flp. Run it side by side with
 several seeds.
 """
@@ -17,6 +17,7 @@ import argparse
 import os
 import random
 import resource
+import signal
 import struct
 import sys
 import time
@@ -109,6 +110,7 @@ def main():
     parser.add_argument("--keep", default="fuzz-found")
     given = parser.parse_args()
     resource.setrlimit(resource.RLIMIT_AS, (MEMORY, MEMORY))
+    signal.signal(signal.SIGTERM, lambda *_: setattr(given, "seconds", 0))
     program, inputs, found, done, start = Program(measure.program()), Inputs(), 0, 0, time.monotonic()
     for number in range(given.first, given.first + given.count):
         if time.monotonic() - start > given.seconds or found >= 20:
@@ -128,7 +130,7 @@ def main():
     counts = sorted(program.statuses.items())
     said = [f"{command} {status}: {count}" for (command, status), count in counts]
     print("runs by command and status:", ", ".join(said))
-    print(f"the largest peak of a run: {resource.getrusage(resource.RUSAGE_CHILDREN).ru_maxrss / 1024:.0f} MB")
+    print(f"the most that a run used: {program.peak / 1024:.0f} MB, {program.seconds:.2f} seconds of a processor")
     sys.exit(1 if found else 0)
 
 

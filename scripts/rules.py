@@ -1,15 +1,16 @@
 """What each reply of the program must obey, found without a second verifier. Read by fuzz.py."""
 import collections
+import os
 import re
+import signal
 import struct
-import subprocess
 import zlib
 
 import measure  # noqa: F401, which finds the client
 import flp_client as client
 
 P = client.P
-SECONDS, MEMORY, LENGTHS_KEPT = 10, 2**30, 2000
+SECONDS, PATIENCE, MEMORY, LENGTHS_KEPT = 10, 300, 2**30, 2000
 SEGMENT = 1024  # reports that are read at once, where a report has at most 65,536 bytes
 FILE_FAULTS = [r"(version|shares|proofs|too large) \d+", r"truncated \d+ \d+", "magic", "trailing"]
 WHICH = "(max|length|bits|chunk|weight|meas|joint|gadgets|arity|degree|visits|calls|checks|outs|wires|terms)"
@@ -44,21 +45,48 @@ class Reply:
         return re.search(": too large", self.said) is not None
 
 
+class File:
+    """A file in memory, which a run reads or writes."""
+
+    def __init__(self, content=b""):
+        self.number = os.memfd_create("run")
+        with open(self.number, "wb", closefd=False) as file:
+            file.write(content)
+        os.lseek(self.number, 0, os.SEEK_SET)
+
+    def content(self):
+        os.lseek(self.number, 0, os.SEEK_SET)
+        with open(self.number, "rb") as file:
+            return file.read()
+
+
+def ended(path, words, given):
+    """How a run ends, what it wrote and said, and what it used: of a processor and, at its peak, of memory."""
+    files = [File(given), File(), File()]
+    actions = [(os.POSIX_SPAWN_DUP2, file.number, target) for target, file in enumerate(files)]
+    run = os.posix_spawn(path, [path, *words], os.environ, file_actions=actions)
+    signal.signal(signal.SIGALRM, lambda *_: os.kill(run, signal.SIGKILL))
+    signal.alarm(PATIENCE)
+    _, status, used = os.wait4(run, 0)
+    signal.alarm(0)
+    _, out, said = [file.content() for file in files]
+    return Reply(os.waitstatus_to_exitcode(status), out, said.decode(errors="replace")), used
+
+
 class Program:
-    """The program, with what it said of the lengths of circuit texts."""
+    """The program, with what it said of the lengths of circuit texts, and the most that a run used."""
 
     def __init__(self, path):
-        self.path, self.known, self.statuses = path, {}, collections.Counter()
+        self.path, self.known, self.statuses, self.peak, self.seconds = path, {}, collections.Counter(), 0, 0
 
     def run(self, words, given):
         """One run, with what each of any command must obey."""
         name = " ".join(words)
-        try:
-            ended = subprocess.run([self.path, *words], input=given, capture_output=True, timeout=SECONDS)
-        except subprocess.TimeoutExpired:
-            raise Broken(f"{name}: more than {SECONDS} seconds") from None
-        reply = Reply(ended.returncode, ended.stdout, ended.stderr.decode(errors="replace"))
+        reply, used = ended(self.path, words, given)
+        seconds = used.ru_utime + used.ru_stime
         self.statuses[words[0], reply.status] += 1
+        self.peak, self.seconds = max(self.peak, used.ru_maxrss), max(self.seconds, seconds)
+        require(seconds < SECONDS, f"{name}: {seconds:.0f} seconds of a processor")
         require(reply.status >= 0, f"{name}: signal {-reply.status}")
         require(reply.status != 3, f"{name}: want of memory below {MEMORY} bytes")
         require(fits(words[0], reply), f"{name}: status {reply.status} with the line {reply.said!r}")
