@@ -337,7 +337,18 @@ def files():
 
 
 def run(command, path):
-    """Runs a command on a file: the seconds of a processor, the peak of memory in MB, the status and the last line."""
+    """Runs a command on a file, up to three times: the least seconds of a processor, the peak of memory in MB, the status and
+    the last line."""
+    best, taken = run_once(command, path), 0
+    for _ in range(2):
+        taken += best[0]
+        if taken < 3:
+            best = min(best, run_once(command, path))
+    return best
+
+
+def run_once(command, path):
+    """Runs a command on a file once."""
     with open(path, "rb") as given:
         process = subprocess.Popen(command, stdin=given, stdout=subprocess.PIPE, stderr=subprocess.STDOUT)
     line = b""
