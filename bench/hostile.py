@@ -1,10 +1,10 @@
 """Times the program on circuit texts, batches and job files that strangers could send: each within all limits, just above
 one, or with a head that lies.
 
-Usage: hostile.py PROGRAM.. runs `PROGRAM.. lengths` on each text, and each command of a file on that file, all on one
-processor, and prints two tables. Seconds are those of a processor and MB the peak of memory, both of the command: of `rt`
-too where it runs the program. The memory is never below the 14 MB that this script has. hostile.py --write FOLDER writes the
-texts and files to a folder instead.
+Usage: hostile.py PROGRAM.. runs `PROGRAM.. lengths` on each text, `trial` on some, and each command of a file on that file,
+all on one processor, and prints two tables. Seconds are those of a processor and MB the peak of memory, both of the command:
+of `rt` too where it runs the program. The memory is never below the 20 MB that this script has. hostile.py --write FOLDER
+writes the texts and files to a folder instead.
 
 Of a text the seconds are those beyond a tiny text's. Of a file they are those of one record: beyond those of the same head
 with no record, by the number of records. `takes` is how many times as long that is as reading the record, which is timed on
@@ -31,6 +31,11 @@ DEEP = 60
 LONGEST = 65536
 ROOM = 6 << 30  # no command gets more memory
 A_SECOND = 300e6  # products
+
+# Public values: the most of them, and those that take the most products.
+VARIABLES = "sum i in 0..4190000 (i)"
+POWERS = "sum i in 0..699000 ((joint[0] + i)^4294967295)"
+POWERS_OF_POWERS = "sum i in 0..32700 (" + "(" * 62 + "joint[0] + i" + ")^4294967295" * 62 + ")"
 
 # ---- texts
 
@@ -65,6 +70,7 @@ def texts():
         "an unbound name in a wide sum": HEAD + "check " + "+".join(["i"] * 32000) + ";",
         # loops and visits
         "loops entered, each with no turn": HEAD + "check sum i in 0..1398000 (sum j in 0..0 (meas?[0]));",
+        "loops of one turn, sixty deep": HEAD + "check " + nested(short, "sum i in 0..838000 (sum j in 0..1 (j))") + ";",
         "loops entered, sixty deep": HEAD + "check " + nested(short, "sum i in 0..1048000 (sum j in 0..0 (meas?[0]))") + ";",
         "visits at the limit": HEAD + "check sum i in 0..4194200 (1);",
         "visits above the limit": HEAD + "check sum i in 0..4294967295 (1);",
@@ -85,9 +91,9 @@ def texts():
         "one byte above the greatest length": padded(HEAD) + "x",
         "no token": "@" * LONGEST,
         # public values and terms
-        "a sum of a loop variable": HEAD + f"check sum i in 0..{VARIABLES} (i);",
-        "powers of a loop variable": HEAD + f"check sum i in 0..{POWERS} (i^4294967295);",
-        "powers of a joint word": HEAD + "check sum i in 0..699000 ((joint[0] + i)^4294967295);",
+        "a sum of a loop variable": HEAD + f"check {VARIABLES};",
+        "powers of a joint word": HEAD + f"check {POWERS};",
+        "powers of powers of a joint word": HEAD + f"check {POWERS_OF_POWERS};",
         "sums of one public value": HEAD + "check sum i in 0..1390000 (joint[0]);",
         "terms at the limit": HEAD + "check sum i in 0..1048000 (meas[0]);",
         "terms above the limit": HEAD + "check sum i in 0..2097000 (meas[0]);",
@@ -96,9 +102,6 @@ def texts():
 
 
 # ---- circuits, and records of them
-
-VARIABLES = 4190000
-POWERS = 1397000
 
 
 @dataclasses.dataclass(frozen=True)
@@ -213,9 +216,9 @@ def circuits():
             65536, wide, "each k in 0..65535 (check meas[k] - 1;) check g0(meas[0], meas[0]); out meas[0];", 131072, 0, 65536
         ),
         "a million terms": Circuit(1, wide, "check g0(meas[0], meas[0]) + sum i in 0..1048000 (meas[0]) - 1; out meas[0];", 1048004),
-        "8.4 million public values": public(f"sum i in 0..{VARIABLES} (i)", 2 * VARIABLES),
-        "powers of loop variables": public(f"sum i in 0..{POWERS} (i^4294967295)", 66 * POWERS),
-        "powers of joint words": public("sum i in 0..699000 ((joint[0] + i)^4294967295)", 67 * 699000),
+        "8.4 million public values": public(VARIABLES, 2 * 4190000),
+        "powers of a joint word": public(POWERS, 67 * 699000),
+        "powers of powers of a joint word": public(POWERS_OF_POWERS, (3 + 62 * 64) * 32700),
     }
 
 
@@ -248,6 +251,14 @@ class File:
             words[self.bad] = 2**64 - 1
         return words
 
+    @property
+    def size(self):
+        """The bytes of a record or job."""
+        circuit, seeds = self.circuit, sum(gadget.arity for gadget in self.circuit.gadgets)
+        parts = self.shares * (circuit.meas + self.proofs * circuit.proof)
+        first = circuit.meas + self.proofs * seeds - (circuit.meas + self.proofs * circuit.proof) if self.job else 0
+        return 16 + 8 * (parts + first + self.proofs * len(circuit.own))
+
     def write(self, path, records):
         """Writes the file with so many of its records."""
         text = (self.circuit.text.replace("- 1;", "- 0;") if self.valid else self.circuit.text).encode()
@@ -268,6 +279,14 @@ class File:
         return self.proofs * self.circuit.products(command, self.shares)
 
 
+LENGTHS, TRIAL = ("lengths",), ("trial", "--seed", "1", "--reports", "8", "--workers", "1")
+TRIED = {
+    "outs at the limit",
+    "a sum of a loop variable",
+    "powers of powers of a joint word",
+    "terms at the limit",
+    "a histogram at its limit",
+}
 VERIFY, PREP, EXPLAIN = ("verify", "--workers", "1"), ("prep", "--party", "0"), ("explain",)
 CROWD = ("verify", "--workers", "16")
 ALL = (VERIFY, PREP, EXPLAIN)
@@ -293,8 +312,9 @@ def files():
         "a million terms, 16 shares": File(known["a million terms"], (VERIFY,), 16, 1, 4),
         "8.4 million public values": File(known["8.4 million public values"], ALL, records=4),
         "8.4 million public values, 16 proofs": File(known["8.4 million public values"], (VERIFY, EXPLAIN, CROWD), 2, 16, 1),
-        "powers of loop variables": File(known["powers of loop variables"], ALL, records=2),
-        "powers of joint words": File(known["powers of joint words"], ALL, records=2),
+        "powers of a joint word": File(known["powers of a joint word"], ALL, records=2),
+        "powers of powers of a joint word": File(known["powers of powers of a joint word"], ALL, records=2),
+        "the same powers, 16 proofs": File(known["powers of powers of a joint word"], (VERIFY, EXPLAIN), 2, 16, 1),
         # records that end early
         "a bad last word": File(wide, ALL, records=64, bad=-1),
         "one nonce for all": File(small, (VERIFY, EXPLAIN), records=100000, once=True),
@@ -309,7 +329,7 @@ def files():
         # job files
         "jobs of one call": File(small, JOBS, records=10000, valid=True, job=True),
         "jobs of psum 256 of degree 8": File(known["psum 256 of degree 8, 2,048 calls"], JOBS, records=2, valid=True, job=True),
-        "jobs of powers of loop variables": File(known["powers of loop variables"], JOBS, 2, 16, 2, job=True),
+        "jobs of powers of powers": File(known["powers of powers of a joint word"], JOBS, 2, 16, 2, job=True),
     }
 
 
@@ -317,7 +337,18 @@ def files():
 
 
 def run(command, path):
-    """Runs a command on a file: the seconds of a processor, the peak of memory in MB, the status and the last line."""
+    """Runs a command on a file, up to three times: the least seconds of a processor, the peak of memory in MB, the status and
+    the last line."""
+    best, taken = run_once(command, path), 0
+    for _ in range(2):
+        taken += best[0]
+        if taken < 3:
+            best = min(best, run_once(command, path))
+    return best
+
+
+def run_once(command, path):
+    """Runs a command on a file once."""
     with open(path, "rb") as given:
         process = subprocess.Popen(command, stdin=given, stdout=subprocess.PIPE, stderr=subprocess.STDOUT)
     line = b""
@@ -338,23 +369,34 @@ def table(*heads):
 def time_texts(program, folder):
     """Prints the table of texts."""
     path = os.path.join(folder, "text")
-    table("text", "bytes", "s", "MB", "status", "last line")
+    table("text", "command", "bytes", "s", "MB", "status", "last line")
     base = 0
     for name, text in texts().items():
         with open(path, "w") as file:
             file.write(text)
-        seconds, peak, status, line = run(program + ["lengths"], path)
-        base = base or seconds
-        print(f"| {name} | {len(text)} | {seconds - base:.2f} | {peak:.0f} | {status} | {line} |", flush=True)
+        for words in (LENGTHS, TRIAL) if name in TRIED else (LENGTHS,):
+            seconds, peak, status, line = run(program + list(words), path)
+            base = base or seconds
+            row = [name, words[0], len(text), f"{seconds - base:.2f}", f"{peak:.0f}", status, line]
+            print("| " + " | ".join(map(str, row)) + " |", flush=True)
+
+
+def aside(work):
+    """Does work in a process of its own, so that the memory that it takes does not count."""
+    if child := os.fork():
+        os.waitpid(child, 0)
+    else:
+        work()
+        os._exit(0)
 
 
 def time_file(program, folder, name, file):
     """Prints the rows of a file."""
     whole, none, read = (os.path.join(folder, part) for part in ("whole", "none", "read"))
-    file.write(whole, file.records)
-    file.write(none, 0)
-    dataclasses.replace(file, bad=0).write(read, file.records)
-    size = 16 + 8 * len(file.words)
+    aside(lambda: file.write(whole, file.records))
+    aside(lambda: file.write(none, 0))
+    aside(lambda: dataclasses.replace(file, bad=0).write(read, file.records))
+    size = file.size
     alone = file.told is None and file.records > 0
     for words in file.commands:
         command = program + list(words)
@@ -397,4 +439,5 @@ def main(words):
         time_files(words, folder)
 
 
-main(sys.argv[1:])
+if __name__ == "__main__":
+    main(sys.argv[1:])
