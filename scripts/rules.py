@@ -13,6 +13,7 @@ P = client.P
 SECONDS, PATIENCE, MEMORY, LENGTHS_KEPT = 10, 300, 2**30, 2000
 SEGMENT = 1024  # reports that are read at once, where a report has at most 65,536 bytes
 FILE_FAULTS = [r"(version|shares|proofs|too large) \d+", r"truncated \d+ \d+", "magic", "trailing"]
+BATCH_FAULTS = [r"claims order \d+", r"(buckets|width) \d+", r"bucket \d+ \d+"]
 WHICH = "(max|length|bits|chunk|weight|meas|joint|gadgets|arity|degree|visits|calls|checks|outs|wires|terms)"
 CIRCUIT_FAULTS = [r"(text length|lex|syntax|depth|name|twice|not linear|index|arity|uncalled) \d+", f"zero {WHICH}",
                   rf"(too large|limit) {WHICH} \d+"]
@@ -73,11 +74,23 @@ def ended(path, words, given):
     return Reply(os.waitstatus_to_exitcode(status), out, said.decode(errors="replace")), used
 
 
+# the head of a batch of version 2, without buckets
+NEWEST = b"FLPBATCH" + struct.pack("<7I", 2, 2, 1, 10, 0, 0, 0)
+
+
 class Program:
     """The program, with what it said of the lengths of circuit texts, and the most that a run used."""
 
     def __init__(self, path):
-        self.path, self.known, self.statuses, self.peak, self.seconds = path, {}, collections.Counter(), 0, 0
+        self.path, self.known, self.commands = path, {}, {}
+        self.statuses, self.peak, self.seconds = collections.Counter(), 0, 0
+        self.newest = 1 if "version 2" in ended(path, ["verify", "--workers", "1"], NEWEST)[0].said else 2
+
+    def knows(self, command, *words):
+        """Whether there is such a command, which takes these words."""
+        if command not in self.commands:
+            self.commands[command] = ended(self.path, [command, *words], b"")[0].status != 2
+        return self.commands[command]
 
     def run(self, words, given):
         """One run, with what each of any command must obey."""
@@ -90,8 +103,9 @@ class Program:
         require(reply.status >= 0, f"{name}: signal {-reply.status}")
         require(reply.status != 3, f"{name}: want of memory below {MEMORY} bytes")
         require(fits(words[0], reply), f"{name}: status {reply.status} with the line {reply.said!r}")
-        require(reply.out == b"" or reply.out.endswith(b"\n") or words == ["prove"], f"{name}: a line that is cut")
-        if reply.status in (7, 8) or words[0] not in ("verify", "prep", "explain"):
+        lines = words[0] not in ("prove", "deal", "upgrade")
+        require(reply.out == b"" or reply.out.endswith(b"\n") or not lines, f"{name}: a line that is cut")
+        if reply.status in (7, 8) or words[0] in ("prove", "hide", "lengths", "trial"):
             require(reply.status == 0 or reply.out == b"", f"{name}: status {reply.status} behind what was written")
         return reply
 
@@ -109,8 +123,9 @@ class Program:
 def fits(command, reply):
     """Whether the line on the error output is one of the status, and the status one of the command."""
     jobs = command in ("prove", "hide")
-    more = {"prep": [r"claims order \d+", r"party \d+"], "verify": [r"claims order \d+"]}
-    faults = FILE_FAULTS + ([r"word \d+ \d+"] if jobs else more.get(command, more["verify"]))
+    faults = FILE_FAULTS + ([r"word \d+ \d+"] if jobs else BATCH_FAULTS)
+    if command in ("prep", "deal"):
+        faults = [*faults, r"party \d+"]
     if command == "trial":
         faults = [r"too large \d+"]
     lines = {0: "", 6: rf"flp: {'job' if jobs else 'batch'}: ({'|'.join(faults)})\n"}
@@ -139,28 +154,37 @@ class Batch:
     """A batch's front and whole records; None in `size` where the front says nothing of them."""
 
     def __init__(self, program, given):
-        self.given, self.size, self.records, self.claims = given, None, [], []
-        if len(given) < 32 or given[:8] != b"FLPBATCH":
+        self.given, self.size, self.records, self.claims, self.buckets = given, None, [], [], 1
+        if len(given) < 36 or given[:8] != b"FLPBATCH":
             return
         self.version, self.shares, self.proofs, length, claims, self.reports = struct.unpack_from("<6I", given, 8)
-        start = 32 + length + 16 * claims
-        if self.version != 1 or not 2 <= self.shares <= 16 or not 1 <= self.proofs <= 16 or start > len(given):
+        if self.version == 2:
+            [self.buckets] = struct.unpack_from("<I", given, 32)
+        head = 32 if self.version == 1 else 36
+        start = head + length + 16 * claims
+        if not 1 <= self.version <= program.newest or not 1 <= self.buckets <= 256 or start > len(given):
             return
-        self.text = given[32 : 32 + length]
+        if not 2 <= self.shares <= 16 or not 1 <= self.proofs <= 16:
+            return
+        self.text, self.words_at = given[head : head + length], 16 if self.version == 1 else 20
         lengths = program.lengths(self.text) if length <= 65536 else None
         if lengths is None:
             return
-        self.lengths, self.size = lengths, 16 + 8 * lengths.record_words(self.shares, self.proofs)
-        self.claims = [given[at : at + 16] for at in range(32 + length, start, 16)]
+        self.lengths, self.size = lengths, self.words_at + 8 * lengths.record_words(self.shares, self.proofs)
+        self.claims = [given[at : at + 16] for at in range(head + length, start, 16)]
         whole = min((len(given) - start) // self.size, self.reports)
         self.records = [given[start + k * self.size : start + (k + 1) * self.size] for k in range(whole)]
         self.is_whole = len(given) == start + self.reports * self.size and self.claims == sorted(set(self.claims))
+        self.is_whole = self.is_whole and all(self.bucket(record) < self.buckets for record in self.records)
+
+    def bucket(self, record):
+        return 0 if self.version == 1 else struct.unpack_from("<I", record, 16)[0]
 
     def wanted(self):
         """For each whole record its verdict where nonces and words decide it, else None."""
         seen = set(self.claims)
         for record in self.records:
-            words = struct.unpack_from(f"<{(self.size - 16) // 8}Q", record, 16)
+            words = struct.unpack_from(f"<{(self.size - self.words_at) // 8}Q", record, self.words_at)
             bad = next((place for place, word in enumerate(words) if word >= P), None)
             yield "replayed" if record[:16] in seen else None if bad is None else f"malformed {bad}"
             seen.add(record[:16])
@@ -190,6 +214,17 @@ def check_front(batch, reply):
         require(count == len(batch.records) // SEGMENT * SEGMENT, "other lines than those of whole segments")
 
 
+def check_ending(batch, verdicts, lines):
+    """The count, and for each bucket the count and as many sums as the circuit has outs."""
+    require(lines[0] == f"count {verdicts.count('accepted')}", "the count")
+    accepted = [batch.bucket(record) for record, verdict in zip(batch.records, verdicts) if verdict == "accepted"]
+    for bucket, line in enumerate(lines[1:]):
+        front = f"bucket {bucket} count {accepted.count(bucket)} " if batch.version == 2 else ""
+        require(line.startswith(f"{front}aggregate "), f"the line of bucket {bucket}")
+        sums = [int(word) for word in line[len(front) :].split()[1:]]
+        require(len(sums) == batch.lengths.outs and all(n < P for n in sums), "the aggregate")
+
+
 def check_verify(program, given):
     """What `verify` must obey on any bytes. Answers the batch, the verdicts and the reply."""
     reply, batch = program.run(["verify", "--workers", "1"], given), Batch(program, given)
@@ -200,13 +235,14 @@ def check_verify(program, given):
         return batch, [], reply
     if match := re.fullmatch(r"flp: batch: truncated (\d+) (\d+)\n", reply.said):
         require(int(match[1]) == len(given) < int(match[2]), "the numbers of an early end")
-    require((reply.status == 0) == batch.is_whole or reply.is_too_large(), "the status of a whole batch")
+    is_large = reply.is_too_large() or reply.said.startswith("flp: batch: width")
+    require((reply.status == 0) == batch.is_whole or is_large, "the status of a whole batch")
     lines = reply.lines()
     if reply.status == 0:
-        ending = client.read_text(lines)
-        verdicts = check_lines(batch, lines[:-2])
-        require(len(verdicts) == batch.reports and ending.count == verdicts.count("accepted"), "the count")
-        require(len(ending.aggregate) == batch.lengths.outs and all(n < P for n in ending.aggregate), "the aggregate")
+        ends = batch.buckets + 1
+        verdicts = check_lines(batch, lines[:-ends])
+        require(len(verdicts) == batch.reports, "a report of which nothing is said")
+        check_ending(batch, verdicts, lines[-ends:])
         return batch, verdicts, reply
     check_front(batch, reply)
     return batch, check_lines(batch, lines), reply
@@ -218,10 +254,12 @@ def check_release(program, batch, reply):
     other = program.run(["verify", "--claims", "--workers", "2", "--min", str(least)], batch.given)
     if reply.status != 0:
         return require(other == reply, "another fault with --min and --claims")
-    lines = reply.lines()
-    withheld = client.read_text(lines).count < least
-    if withheld:
-        lines[-1] = "withheld 0"
+    lines, withheld = reply.lines(), False
+    for place in range(len(lines) - batch.buckets, len(lines)):
+        front, _, _ = lines[place].partition("aggregate")
+        count = lines[place - 1] if batch.version == 1 else front
+        if int(count.split()[-1]) < least:
+            lines[place], withheld = f"{front}withheld 0", True
     known = sorted({*batch.claims, *(record[:16] for record in batch.records)})
     require(other.status == (9 if withheld else 0), "the status with --min")
     require(other.lines() == lines + [f"claim {nonce.hex()}" for nonce in known], "the text with --min and --claims")
@@ -304,12 +342,47 @@ def check_batch(program, given):
     batch, verdicts, reply = check_verify(program, given)
     if batch.size is not None:
         check_release(program, batch, reply)
+        check_copies(program, batch, reply)
     if reply.status == 0:
         check_prep(program, batch, verdicts, given)
         check_explain(program, batch, given)
     else:
         joint = program.run(["explain", "--joint"], given)
         require((joint.status, joint.said) == (reply.status, reply.said), "explain --joint: another fault")
+
+
+def upgraded(batch, buckets, bucket):
+    """A batch of version 1 in version 2, as far as its records are whole."""
+    head = batch.given[:8] + struct.pack("<I", 2) + batch.given[12:32] + struct.pack("<I", buckets)
+    records = [record[:16] + struct.pack("<I", bucket) + record[16:] for record in batch.records]
+    return b"".join([head, batch.text, *batch.claims, *records])
+
+
+def dealt(batch, party):
+    """What one party gets of a batch of version 1, as far as its records are whole."""
+    share = 8 * (batch.lengths.meas + batch.proofs * batch.lengths.proof)
+    own, rest = 16 + party * share, 16 + batch.shares * share
+    head = b"FLPSHARE" + batch.given[8:32] + struct.pack("<I", party)
+    records = [record[:16] + record[own : own + share] + record[rest:] for record in batch.records]
+    return b"".join([head, batch.text, *batch.claims, *records])
+
+
+def check_copies(program, batch, reply):
+    """What `upgrade` and `deal` write: other layouts of the same, whole or as far as the batch goes."""
+    if batch.version != 1:
+        return
+    party = len(batch.given) % batch.shares
+    buckets = len(batch.given) % 256 + 1
+    made = {"upgrade": (["--buckets", str(buckets), "--bucket", str(buckets - 1)], upgraded(batch, buckets, buckets - 1)),
+            "deal": (["--party", str(party)], dealt(batch, party))}
+    for name, (words, wanted) in made.items():
+        if not program.knows(name, *words):
+            continue
+        copy = program.run([name, *words], batch.given)
+        if name == "deal":
+            require((copy.status, copy.said) == (reply.status, reply.said), "deal: another fault than that of verify")
+        require(wanted.startswith(copy.out), f"{name}: other bytes")
+        require(copy.status != 0 or (copy.out == wanted and reply.status == 0), f"{name}: not all bytes")
 
 
 # ---- job files
