@@ -163,7 +163,7 @@ on() {
 echo '| command | input | status where none is refused | refused: status 3 | refused and answered all the same |'
 echo '|---|---|---|---|---|'
 batches=(shares.batch rating.batch truncated.batch "$room/segments.batch")
-for line in 'verify --workers 1' 'verify --workers 4' 'verify --workers 2 --min 2 --claims' 'prep --party 1' explain; do
+for line in 'verify --workers 1' 'verify --workers 4' 'verify --workers 2 --min 2 --claims' 'prep --party 1' 'deal --party 1' explain; do
   read -ra words <<<"$line"
   on "${batches[@]}"
 done
