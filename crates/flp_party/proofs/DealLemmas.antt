@@ -3,9 +3,10 @@ use Rattle.std.proofs.Common.{◌≡◌, ◌≢◌, ℕ, ◌+◌, ◌-◌, ◌/�
 use Rattle.std.specs.List.{concat, flat_map}
 use Rattle.std.specs.Prelude.{All}
 use Rattle.std.specs.Io.KnownBytes.{Appends, Consumes}
-use Rattle.std.proofs.KnownBytes.{Appends-trans, Consumes-trans}
+use Rattle.std.proofs.KnownBytes.{Appends-trans, Consumes-trans, Keeps-refl}
 use Rattle.std.proofs.lemmas.List.{take_at}
 use Rattle.std.proofs.lemmas.Grind.{flat_map-append}
+use Rattle.flp_io.specs.Reads.{ConsumesSome}
 use Rattle.flp_io.specs.Writes.{TakesPrefix}
 use Rattle.flp_io.proofs.WriteLemmas.{TakesPrefix-more, TakesPrefix-after}
 use Rattle.flp_report.specs.declared.header.Header.{Header}
@@ -169,6 +170,10 @@ stops-front party o first left taken taken' opens front =
             (TakesPrefix-more taken taken' (front_behind party o) (lines_behind party o records) front);
       });
     }
+
+-- where nothing was written
+pub stops-none : (party : ℕ) (left left' taken : Option (List ℕ)) → ConsumesSome left left' → StopsShare party left left' taken taken
+stops-none party left left' taken some = record { bytes = some.bytes; read = some.gone; written = inl (Keeps-refl taken) }
 
 -- exactly that of all whole records that are settled, where the input has a fault
 pub settles-behind : (party : ℕ) (o : Opened) (first left left' taken mid taken' : Option (List ℕ))

@@ -4,11 +4,11 @@
 //! contract says that it writes this file, as a function of the bytes that it reads.
 #![tactic(auto)]
 
-mod deal;
+mod command;
 mod dealing;
 mod share_head;
 
-pub use deal::deal;
+pub use command::deal;
 pub use flp_batch::EngineFault;
 
 /// Want of memory, as std's allocators answer it.

@@ -3,7 +3,7 @@ use Rattle.std.specs.Prelude.{OnOk, OnErr, IfErr}
 use Rattle.flp_report.specs.Reader.{source_of}
 use Rattle.flp_batch.specs.Fault.{IsOfInput}
 use Rattle.flp_party.specs.Reply.{WritesShare, StopsShare, SettlesShare}
-use Rattle.flp_party.proofs.deal.deal.Goals as goal
+use Rattle.flp_party.proofs.command.deal.Goals as goal
 
 pub deal_read-requires-clause-readable : goal.deal_read-requires-clause-readable
 deal_read-requires-clause-readable g c = subst g.S.Source.ready (sym c.new-reader.ensures.source) c.requires.readable
