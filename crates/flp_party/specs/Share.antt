@@ -26,9 +26,12 @@ share_front party h claims = share_head party h ++ concat claims
 
 -- ---- records
 
--- the joint and the query words of all proofs of a report, which every party knows
+-- the joint and the query words of one proof of a report, and those of all its proofs, which every party knows
+abbrev pub own_in : Shape → (report : List ℕ) → (proof : ℕ) → List ℕ
+own_in shape report proof = joint_in shape report proof ++ query_in shape report proof
+
 abbrev pub public_in : Shape → (report : List ℕ) → List ℕ
-public_in shape report = flat_map (λ proof. joint_in shape report proof ++ query_in shape report proof) (range_with_len 0 shape.proofs)
+public_in shape report = flat_map (own_in shape report) (range_with_len 0 shape.proofs)
 
 -- what a party gets of a report: its nonce, the party's share of encoding and proofs, and what every party knows
 abbrev pub dealt_record : (party : ℕ) → Shape → (report : List ℕ) → List ℕ

@@ -1,12 +1,22 @@
 //! What `deal` makes of each record of a batch.
 ghost use Rattle.std.specs.Prelude.{◌≡◌, ◌++◌, ◌<◌, IfOk, OnOk};
 ghost use Rattle.flp_report.specs.Record.{record_of, shape_of};
-ghost use Rattle.flp_party.specs.Share.{public_in, dealt_record};
+ghost use Rattle.flp_party.specs.Share.{own_in, public_in, dealt_record};
 
 use crate::Memory;
 use flp_batch::Judge;
 use flp_report::{Record, Shape};
 use std::alloc::AllocError;
+
+/// Appends the joint and the query words of one proof of a record.
+fn push_own(line: &mut Vec<u8>, given: &Record, proof: u32) -> Result<(), Memory>
+    requires { proof < (shape_of given.now).proofs }
+    ensures { OnOk result (line.new.items ≡ line.old.items ++ own_in (shape_of given.now) (record_of given.now) proof) }
+{
+    line.extend_from_slice(given.joint(proof))?;
+    line.extend_from_slice(given.query(proof))?;
+    Ok(())
+}
 
 /// Appends the joint and the query words of all proofs of a record.
 fn push_public(line: &mut Vec<u8>, given: &Record, proofs: u32) -> Result<(), Memory>
@@ -14,19 +24,13 @@ fn push_public(line: &mut Vec<u8>, given: &Record, proofs: u32) -> Result<(), Me
     ensures { OnOk result (line.new.items ≡ line.old.items ++ public_in (shape_of given.now) (record_of given.now)) }
 {
     for proof in 0..proofs {
-        line.extend_from_slice(given.joint(proof))?;
-        line.extend_from_slice(given.query(proof))?;
+        push_own(line, given, proof)?;
     }
     Ok(())
 }
 
 /// Appends what a party gets of a record.
-fn push_dealt(
-    line: &mut Vec<u8>,
-    given: &Record,
-    party: u32,
-    proofs: u32,
-) -> Result<(), Memory>
+fn push_dealt(line: &mut Vec<u8>, given: &Record, party: u32, proofs: u32) -> Result<(), Memory>
     requires share { party < (shape_of given.now).shares }
     requires proofs { proofs ≡ (shape_of given.now).proofs }
     ensures { OnOk result (line.new.items ≡ line.old.items ++ dealt_record party (shape_of given.now) (record_of given.now)) }

@@ -16,7 +16,7 @@ const LETTERS: [u8; 8] = *b"FLPSHARE";
 /// Writes the numbers of a share file, 4 bytes each.
 fn put_numbers<K: Sink>(sink: &mut K, numbers: [u32; 7]) -> Result<(), Failed>
     requires ready { K.ready sink.old }
-    ensures { WritesTo K.taken K.faults K.spare K.ready sink.old sink.new (flat_map (little_bytes 4) numbers.entry) result }
+    ensures { WritesTo K.taken K.faults K.spare K.ready sink.old sink.new (flat_map (little_bytes 4) numbers) result }
 {
     let mut bytes = [0; 28];
     LittleEndian::write_u32_into(&numbers, &mut bytes);
