@@ -125,6 +125,13 @@ def check_printed(program, text):
             faults.append(f"flp {words} of {name}: {ended.stdout.decode()}{ended.stderr.decode()}")
 
 
+def check_dealt(program, text):
+    """The dump of a share file of the small batch."""
+    for words, block in re.findall(r"What `flp (deal [^`]*)` writes of the count of 1 [^\n]*:\n\n```\n(.*?)```", text, re.S):
+        if answer(program, words.split(), content_of("crates/flp_cases/data/accepted.batch")).stdout != dumped(block):
+            faults.append(f"flp {words}")
+
+
 def check_first_screen(program, text):
     """The two commands at the head of the README, one behind the other, and what the second prints."""
     wanted = re.search(r"the second prints\n\n```\n(.*?)```", text, re.S).group(1)
@@ -188,6 +195,7 @@ def main():
         check_refusals(program, circuits)
         check_lengths(program, formats + circuits)
         check_printed(program, formats)
+        check_dealt(program, formats)
         check_bodies(program, circuits)
         check_first_screen(program, read("README.md"))
         check_trials(program, read("README.md"), formats)

@@ -33,6 +33,7 @@ RUNS = [
     ("verify --workers 4", BATCHES),
     ("verify --workers 2 --min 2 --claims", BATCHES),
     ("prep --party 1", BATCHES),
+    ("deal --party 1", BATCHES),
     ("explain", BATCHES),
     ("explain --joint", BATCHES),
     ("prove", JOBS),

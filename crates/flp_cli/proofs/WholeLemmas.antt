@@ -30,7 +30,7 @@ use Rattle.flp_verify.specs.Text.{verdict_lines}
 use Rattle.flp_prep.specs.Text.{prepared_lines}
 use Rattle.flp_explain.specs.Text.{explained_lines}
 use Rattle.flp_words.specs.declared.command.Command.{Command}
-use Rattle.flp_words.specs.declared.command.Command.TheVariants.{Verify, Prove, Lengths, Prep, Explain, Hide, Trial}
+use Rattle.flp_words.specs.declared.command.Command.TheVariants.{Verify, Prove, Lengths, Prep, Explain, Hide, Trial, Deal}
 use Rattle.flp_io.specs.Reads.{ConsumesAtMost}
 use Rattle.flp_lengths.specs.Reading.{judged_text}
 use Rattle.flp_lengths.specs.Reply.{WritesLengths, StopsInLengths, StopsBy, IsFaultOfText}
@@ -48,6 +48,7 @@ use Rattle.flp_cli.specs.Stream.{Stream, Says}
 use Rattle.flp_cli.proofs.StatusLemmas.{file-status, whole-text}
 use Rattle.flp_cli.proofs.BatchLemmas.{OneSetting, NeverBoth, OneFault, batch-one, lines-one, batch-unread}
 use Rattle.flp_cli.proofs.TrialLemmas.{trial-one}
+use Rattle.flp_cli.proofs.PartyLemmas.{deal-one, deal-unread}
 use Rattle.flp_cli.proofs.RunLemmas.{not_refused, end-done, end-failed, run-memory, still, within-none}
 
 -- ---- a command that reads a job file
@@ -221,6 +222,7 @@ one-reply setting never fault jobs refusal text trial one_trial would (Prep part
 one-reply setting never fault jobs refusal text trial one_trial would (Explain joint) = lines-one setting never fault None (explained_lines joint)
 one-reply setting never fault jobs refusal text trial one_trial would Hide = jobs-one jobs refusal hide_rules hidden_text
 one-reply setting never fault jobs refusal text trial one_trial would (Trial workers seed reports) = trial-one trial one_trial seed reports
+one-reply setting never fault jobs refusal text trial one_trial would (Deal party) = deal-one setting never fault party
 
 -- ---- no memory for the words
 
@@ -253,6 +255,7 @@ unread would (Explain joint) left taken reads writes errors line =
 unread would Hide left taken reads writes errors line = jobs-unread hide_rules hidden_text left taken reads writes errors line
 unread would (Trial workers seed reports) left taken reads writes errors line =
     text-unread kind.Batch (6 ∷ 7 ∷ []) (trial_reply seed reports) left taken reads writes errors line
+unread would (Deal party) left taken reads writes errors line = deal-unread party left taken reads writes errors line
 
 -- the run of a command that has another name
 pub run-for : (would : Answers) (command other : Command) (input output errors : Stream) (status : ℕ) → command ≡ other

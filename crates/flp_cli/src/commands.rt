@@ -14,6 +14,7 @@ use flp_io::{Sink, Source};
 use flp_jobs::{ProveFault, prove};
 use flp_lengths::lengths;
 use flp_lines::FileKind;
+use flp_party::deal;
 use flp_policy::Policy;
 use flp_pool::Gate;
 use flp_prep::prep;
@@ -67,6 +68,7 @@ fn kind_of(command: Command) -> FileKind
         Command::Explain { .. } => FileKind::Batch,
         Command::Hide => FileKind::Job,
         Command::Trial { .. } => FileKind::Batch,
+        Command::Deal(_) => FileKind::Batch,
     }
 }
 
@@ -114,6 +116,7 @@ fn perform<R: Threads + Sync, S: Source, K: Sink, G: Gate>(
             seed,
             reports,
         } => by_file(all_done(trial(rt, alloc, input, output, seed, reports, workers, gate))),
+        Command::Deal(party) => by_file(all_done(deal(alloc, party, input, output))),
     }
 }
 

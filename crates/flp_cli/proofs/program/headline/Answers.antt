@@ -30,6 +30,5 @@ returns c = record {
     made_honestly = c.records_are_honest.ensures bytes by provable;
   };
   seeds = c.seeds_match.ensures;
-  places = c.places.ensures.found;
-  standard = c.places.ensures.standard;
+  trials = c.places.ensures;
 }
