@@ -1,7 +1,7 @@
 #!/usr/bin/env bash
 # Times `verify`, outside the gate, on a batch of each standard circuit: one honest report in two shares, so many times
 # (1,000, or the number that is given), each time with a nonce of its own. Each line is the circuit, the bytes of a
-# record, the milliseconds for all reports beyond those for none, and how many reports that is a second.
+# record, the milliseconds of a processor for all reports beyond those for none, and how many reports that is a second.
 # Give RT to name another command than `rt run --`.
 set -eu
 top="$(cd "$(dirname "${BASH_SOURCE[0]}")/.." && pwd)"
@@ -55,14 +55,12 @@ for name, (circuit, x) in CIRCUITS.items():
         file.write(f"{16 + len(record)}\n")
 PROGRAM
 
-# Runs `verify` on a batch, sees that it counts so many reports, and prints the milliseconds.
+# Runs `verify` on a batch, sees that it counts so many reports, and prints the milliseconds of a processor.
 milliseconds() {
-    local start end
-    start="$(date +%s%N)"
-    $run verify --workers 1 <"$1" >"$room/text"
-    end="$(date +%s%N)"
+    local TIMEFORMAT='%U %S' used
+    used="$({ time $run verify --workers 1 <"$1" >"$room/text"; } 2>&1 | tail -n 1)"
     grep -q "^count $2\$" "$room/text"
-    echo $(((end - start) / 1000000))
+    awk '{ printf "%d\n", 1000 * ($1 + $2) }' <<<"$used"
 }
 
 cd "$top/crates/flp"

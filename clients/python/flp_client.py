@@ -5,14 +5,15 @@
     flp_client.py split PREFIX BATCH .. --parts N [--lengths TEXT]
     flp_client.py add TEXT .. [--min M] [--ending]
     flp_client.py verdicts TEXT
-    flp_client.py chart TEXT [--title WORDS] [--names A,B,..] > chart.svg
+    flp_client.py chart TEXT [--title WORDS] [--names A,B,..] [--bucket K] > chart.svg
 
 `jobs` takes a row of numbers for each report, its measurement, or of another circuit than the standard ones the words
 of its encoding, and draws nonces, shares and seeds from the system's randomness. CIRCUIT is a file with the circuit's
 text. `split` puts the records of batches, one behind the other, into N batches by their nonces, PREFIX0.batch and so
 on, so that equal nonces and their old claims meet in one of them. `add` makes one text of what `flp verify` printed of
 such parts, without the verdicts where --ending is given, and withholds the aggregate of fewer than M reports.
-`verdicts` counts the verdicts of a text by kind, and `chart` draws its aggregate as bars.
+`verdicts` counts the verdicts of a text by kind, and `chart` draws its aggregate as bars. Batches and texts are of
+version 1 or 2; of version 2 the counts and aggregates add up, and are withheld, bucket by bucket.
 
 The lengths of a standard circuit are worked out here; for another circuit, TEXT is what `flp lengths` printed.
 """
@@ -170,14 +171,17 @@ class Front:
     text: bytes
     claims: list
     reports: int
+    buckets: int | None = None  # of version 2, where each record has its bucket behind the nonce; None in version 1
 
     def packed(self):
-        head = struct.pack("<6I", 1, self.shares, self.proofs, len(self.text), len(self.claims), self.reports)
-        return b"FLPBATCH" + head + self.text + b"".join(self.claims)
+        version, more = (1, []) if self.buckets is None else (2, [self.buckets])
+        numbers = [version, self.shares, self.proofs, len(self.text), len(self.claims), self.reports, *more]
+        return b"FLPBATCH" + struct.pack(f"<{len(numbers)}I", *numbers) + self.text + b"".join(self.claims)
 
     def record_size(self, printed=None):
         """The bytes of a record."""
-        return 16 + 8 * lengths_for(self.text.decode("ascii"), printed).record_words(self.shares, self.proofs)
+        words = lengths_for(self.text.decode("ascii"), printed).record_words(self.shares, self.proofs)
+        return (16 if self.buckets is None else 20) + 8 * words
 
 
 def read_exactly(source, size, what):
@@ -191,11 +195,12 @@ def read_front(source):
     """Reads a batch up to its first record."""
     head = read_exactly(source, 32, "its head")
     version, shares, proofs, length, claims, reports = struct.unpack_from("<6I", head, 8)
-    if head[:8] != b"FLPBATCH" or version != 1:
-        raise ValueError("no batch of version 1")
+    if head[:8] != b"FLPBATCH" or version not in (1, 2):
+        raise ValueError("no batch of version 1 or 2")
+    [buckets] = struct.unpack("<I", read_exactly(source, 4, "its head")) if version == 2 else [None]
     text = read_exactly(source, length, "its circuit text")
     olds = read_exactly(source, 16 * claims, "its old claims")
-    return Front(shares, proofs, text, [olds[at : at + 16] for at in range(0, len(olds), 16)], reports)
+    return Front(shares, proofs, text, [olds[at : at + 16] for at in range(0, len(olds), 16)], reports, buckets)
 
 
 def part_of(nonce, parts):
@@ -206,8 +211,8 @@ def part_of(nonce, parts):
 def front_of_all(fronts):
     """The front of several batches as one: they agree in shares, proofs and text, and their claims are merged."""
     first = fronts[0]
-    if any((front.shares, front.proofs, front.text) != (first.shares, first.proofs, first.text) for front in fronts):
-        raise ValueError("the batches differ in their shares, proofs or circuit text")
+    if len({(front.shares, front.proofs, front.text, front.buckets) for front in fronts}) > 1:
+        raise ValueError("the batches differ in their shares, proofs, circuit text or buckets")
     claims = sorted(set().union(*(front.claims for front in fronts)))
     return dataclasses.replace(first, claims=claims, reports=0)
 
@@ -242,11 +247,12 @@ def split(sources, sinks, printed=None):
 
 @dataclasses.dataclass
 class Ending:
-    """What `flp verify` printed behind the verdicts."""
+    """What `flp verify` printed behind the verdicts, of a whole batch or of a bucket."""
 
     count: int | None = None
     aggregate: list | None = None  # None where a policy withheld it
     withheld: int | None = None
+    buckets: list = dataclasses.field(default_factory=list)  # of version 2, an ending of each; else none
     claims: list = dataclasses.field(default_factory=list)
 
 
@@ -264,40 +270,64 @@ def read_text(lines, verdict=lambda line: None):
             found.aggregate = [int(number) for number in rest.split()]
         elif name == "withheld" and found.count is not None:
             found.withheld = int(rest)
+        elif name == "bucket" and found.count is not None:
+            found.buckets.append(read_bucket(rest, len(found.buckets)))
         elif name == "claim" and found.count is not None:
             found.claims.append(rest)
         else:
             raise ValueError(f"no line of a text: {line}")
-    if found.aggregate is None and found.withheld is None:
+    if found.aggregate is None and found.withheld is None and not found.buckets:
         raise ValueError("the text has no count and aggregate at its end: it is cut, or verify failed")
     return found
 
 
+def read_bucket(line, place):
+    """The ending of a bucket, by what stands behind the word."""
+    found = re.fullmatch(r"(\d+) count (\d+) (?:aggregate ([\d ]+)|withheld (\d+))", line)
+    if found is None or int(found[1]) != place:
+        raise ValueError(f"no line of bucket {place}: {line}")
+    aggregate = None if found[3] is None else [int(number) for number in found[3].split()]
+    return Ending(int(found[2]), aggregate, None if found[4] is None else int(found[4]))
+
+
+def sums(endings, least):
+    """The count and the aggregate, modulo p, of several endings; withheld where fewer reports count."""
+    if any(ending.aggregate is None for ending in endings):
+        raise ValueError("a part's aggregate is withheld: ask --min of the whole, not of parts")
+    if len({len(ending.aggregate) for ending in endings}) > 1:
+        raise ValueError("the parts have aggregates of different lengths")
+    count = sum(ending.count for ending in endings)
+    if count < least:
+        return Ending(count, withheld=0)
+    return Ending(count, [sum(column) % P for column in zip(*(ending.aggregate for ending in endings))])
+
+
 def total(endings, least=0):
-    """The ending of a batch by those of its parts: counts and aggregates, modulo p, add up, and claims are merged."""
-    made = Ending(count=0)
-    for ending in endings:
-        if ending.aggregate is None:
-            raise ValueError("a part's aggregate is withheld: ask --min of the whole, not of parts")
-        if made.aggregate is not None and len(made.aggregate) != len(ending.aggregate):
-            raise ValueError("the parts have aggregates of different lengths")
-        made.count += ending.count
-        before = made.aggregate or [0] * len(ending.aggregate)
-        made.aggregate = [(a + b) % P for a, b in zip(before, ending.aggregate)]
-        made.claims += ending.claims
-    made.claims.sort()
-    if made.count < least:
-        made.aggregate, made.withheld = None, 0
+    """The ending of a batch by those of its parts: counts and aggregates add up, and claims are merged. Of version 2,
+    bucket by bucket."""
+    endings = list(endings)
+    if len({len(ending.buckets) for ending in endings}) > 1:
+        raise ValueError("the parts have different numbers of buckets")
+    if endings[0].buckets:
+        made = Ending(sum(ending.count for ending in endings))
+        made.buckets = [sums(parts, least) for parts in zip(*(ending.buckets for ending in endings))]
+    else:
+        made = sums(endings, least)
+    made.claims = sorted(claim for ending in endings for claim in ending.claims)
     return made
+
+
+def printed_end(ending):
+    """The aggregate of an ending, or what withholds it."""
+    if ending.aggregate is None:
+        return f"withheld {ending.withheld}"
+    return " ".join(["aggregate", *map(str, ending.aggregate)])
 
 
 def printed_ending(ending):
     """The lines of an ending, as `flp verify` prints them."""
-    lines = [f"count {ending.count}"]
-    if ending.aggregate is None:
-        lines.append(f"withheld {ending.withheld}")
-    else:
-        lines.append(" ".join(["aggregate", *map(str, ending.aggregate)]))
+    lines = [f"bucket {k} count {own.count} {printed_end(own)}" for k, own in enumerate(ending.buckets)]
+    lines = [f"count {ending.count}", *(lines or [printed_end(ending)])]
     return "".join(line + "\n" for line in lines + [f"claim {claim}" for claim in ending.claims])
 
 
@@ -359,6 +389,10 @@ def run_verdicts(given):
 
 def run_chart(given):
     ending = read_text(opened(given.text))
+    if ending.buckets:
+        if given.bucket is None or given.bucket >= len(ending.buckets):
+            raise ValueError(f"the text has {len(ending.buckets)} buckets: say which one by --bucket")
+        ending = ending.buckets[given.bucket]
     if ending.aggregate is None:
         raise ValueError("the aggregate is withheld")
     print(chart(ending.aggregate, given.title, given.names.split(",") if given.names else ()), end="")
@@ -386,7 +420,9 @@ def main():
     add.add_argument("--min", type=int, default=0)
     add.add_argument("--ending", action="store_true")
     command("verdicts", run_verdicts, "text")
-    command("chart", run_chart, "text", "--names").add_argument("--title", default="aggregate")
+    drawing = command("chart", run_chart, "text", "--names")
+    drawing.add_argument("--title", default="aggregate")
+    drawing.add_argument("--bucket", type=int)
     given = parser.parse_args()
     given.run(given)
 

@@ -69,7 +69,7 @@ def parts_of(parts, *batches):
 
 def split_and_joined():
     """Parts hold the old claims and the records of the whole, each in its order, and one part is the whole."""
-    for name in ("claimed.batch", "replayed.batch", "histogram.batch", "empty.batch"):
+    for name in ("claimed.batch", "replayed.batch", "histogram.batch", "empty.batch", "buckets.batch"):
         batch = open(os.path.join(DATA, name), "rb").read()
         whole = client.read_front(io.BytesIO(batch))
         size = whole.record_size()
@@ -116,6 +116,19 @@ def texts_add_up():
             pass
 
 
+def buckets_add_up():
+    """Endings of version 2 add up, and are withheld, bucket by bucket."""
+    ones, twos = ("0" * 32 + " accepted\n" + "count 1\n" + lines for lines in (
+        "bucket 0 count 0 aggregate 0 0\nbucket 1 count 1 aggregate 1 2\n",
+        "bucket 0 count 0 aggregate 0 0\nbucket 1 count 1 aggregate 0 5\n"))
+    both = [client.read_text(text.splitlines()) for text in (ones, twos)]
+    lines = "count 2\nbucket 0 count 0 aggregate 0 0\nbucket 1 count 2 aggregate 1 7\n"
+    assert client.printed_ending(client.total(both)) == lines
+    lines = "count 2\nbucket 0 count 0 withheld 0\nbucket 1 count 2 aggregate 1 7\n"
+    assert client.printed_ending(client.total(both, 2)) == lines
+    assert client.read_text(lines.splitlines()).buckets[0] == client.Ending(0, withheld=0)
+
+
 def counted(program, text, rows, aggregate, shares, proofs):
     """The program accepts each report and sums them up, as a whole and in three parts."""
     lengths = client.lengths_for(text, None)
@@ -138,6 +151,7 @@ def main():
     split_and_joined()
     batches_joined()
     texts_add_up()
+    buckets_add_up()
     assert client.chart([1, 0, 2], "a < b", ["yes", "no"]).count("<rect x=") == 3
     program = sys.argv[1] if len(sys.argv) > 1 else os.path.join(TOP, "crates", "flp", "out", "flp")
     if not os.path.exists(program):
