@@ -12,13 +12,11 @@ mod LawLemmas
 mod NonceLemmas
 -- what is found at a place, by the words of its record
 mod FoundLemmas
--- places where nothing is changed
-mod HonestPlaces
 -- a proof of which the last word is raised
 mod RaisedLemmas
 mod RaisedSums
--- places where the proof is changed
-mod RaisedPlaces
+-- places where nothing is changed, or the proof is
+mod RecordPlaces
 -- no answer enters the calls of a standard circuit
 mod CallLemmas
 -- verdicts that go by the place modulo 8

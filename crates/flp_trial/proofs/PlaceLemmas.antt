@@ -33,8 +33,7 @@ use Rattle.flp_trial.specs.Places.{IsTried, IsValidAt, CallsStand, trial_verdict
 use Rattle.flp_trial.proofs.SizeLemmas.{none-mapped, small-batch}
 use Rattle.flp_trial.proofs.NonceLemmas.{change-at, nothing-first, length-records, record-at, replayed, not_replayed, own-verdict}
 use Rattle.flp_trial.proofs.FoundLemmas.{found-word, found-point, read-honest, good-honest, points-outside}
-use Rattle.flp_trial.proofs.HonestPlaces.{is_honest, kept-query}
-use Rattle.flp_trial.proofs.RaisedPlaces.{found-proof}
+use Rattle.flp_trial.proofs.RecordPlaces.{is_honest, kept-query, found-proof}
 use Rattle.flp_trial.proofs.CallLemmas.{standard_calls}
 use Rattle.flp_trial.proofs.EighthLemmas.{verdict_by_eighth, counts-eighths}
 
