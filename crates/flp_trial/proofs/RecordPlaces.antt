@@ -32,7 +32,7 @@ use Rattle.flp_worker.specs.Verdict.{verdict_of, verdict_by, first_inside, gadge
 use Rattle.flp_verdict.specs.Laws.{IsHonestProof, IsHonest}
 use Rattle.flp_jobs.specs.Setting.{IsCircuitOf}
 use Rattle.flp_jobs.proofs.LawPartLemmas.{sum-cut, sum_of_parts-front}
-use Rattle.flp_jobs.proofs.LawWordLemmas.{words-encoding, words-honest}
+use Rattle.flp_jobs.proofs.LawWordLemmas.{words-encoding, words-honest as words-honest_proof}
 use Rattle.flp_generator.specs.Sequence.{words_taken, joint_taken, seeds_taken, share_taken, query_taken, part_of, sequence_word, taken_by_place}
 use Rattle.flp_generator.specs.Input.{measurement, trial_encoding}
 use Rattle.flp_generator.specs.Place.{unshared_words, honest_words, changed_words, last_proof_word, trial_record}
@@ -119,7 +119,7 @@ module _ (params : Option Params) (circuit : Program) (is : IsCircuitOf params c
   words-unshared : AreWords unshared
   words-unshared =
       All-append IsWord x proof (words-trial params circuit (seed + place) is)
-      (words-honest circuit x joint (seeds_taken lengths taken) bounded (are_seeds params circuit is bounded seed place).words)
+      (words-honest_proof circuit x joint (seeds_taken lengths taken) bounded (are_seeds params circuit is bounded seed place).words)
 
   -- the shares sum up to it
   summed : sum_of_parts 2 (part_words shape) made ≡ unshared
