@@ -6,7 +6,8 @@ the gate, and prints for each how many were refused and how the runs ended.
 
 A run in which a request is refused must end with status 3, the line `flp: no memory`, and what its command may have
 written by then: of `verify` the lines of whole segments, or of all reports; of `prep` and `explain` the lines of whole
-reports, as many as filled a block; else nothing. Where a thread can't be started its work is done by another, so a run
+reports, as many as filled a block; of `deal` and `upgrade` some of their bytes; else nothing. A command that the program
+doesn't know is passed over. Where a thread can't be started its work is done by another, so a run
 may also end as if nothing had been refused. Of several workers' requests another one may have a number each time.
 
 The requests are those that the program itself makes of the C library; refuse.c, which cc compiles, refuses one of them.
@@ -34,6 +35,7 @@ RUNS = [
     ("verify --workers 2 --min 2 --claims", BATCHES),
     ("prep --party 1", BATCHES),
     ("deal --party 1", BATCHES),
+    ("upgrade --buckets 2 --bucket 1", BATCHES),
     ("explain", BATCHES),
     ("explain --joint", BATCHES),
     ("prove", JOBS),
@@ -79,6 +81,8 @@ def run(words, given, library=None, number=0, met=""):
 
 def may_stand(command, whole):
     """How many bytes of the whole text may stand written behind a refusal."""
+    if command in ("deal", "upgrade"):
+        return range(len(whole) + 1)
     if command not in ("verify", "prep", "explain"):
         return {0}
     each = SEGMENT if command == "verify" else 1
@@ -111,6 +115,8 @@ def refuse_all(words, name, library, at_once):
     """Refuses each request of a command on a file, prints a row, and answers how the runs ended that may not end so."""
     given = content(name)
     whole = run(words, given)
+    if whole.status == 2:
+        return []
     stand, counts, wrong = may_stand(words[0], whole.out), collections.Counter(), []
     with concurrent.futures.ThreadPoolExecutor(at_once) as pool:
         for first in range(1, MOST, 64):

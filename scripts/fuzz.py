@@ -9,9 +9,9 @@ whole and with a word changed. What is checked needs no second verifier (rules.p
 on what was written, verdicts as far as nonces and words below p decide them, the same answer for 1 and 4 workers, what
 `--min`, `--claims`, `prep`, `explain` and `--joint` say beside `verify`; that honest reports are accepted, summed up
 and, with a changed word, not; that what `hide` prints leads back to the first place's seeds and has its verifier; and
-the numbers of `trial`. A run has 10 seconds of a processor and 1 GiB. An input that breaks a rule is kept in FOLDER (fuzz-found) and
-named; the exit status is then 1. FLP names the program where it is not crates/flp/out/flp. Run it side by side with
-several seeds.
+the numbers of `trial`. A run has 10 seconds of a processor and 1 GiB. An input that breaks a rule is kept in FOLDER
+(fuzz-found) and named; the exit status is then 1. FLP names the program where it is not crates/flp/out/flp. Run it side
+by side with several seeds.
 """
 import argparse
 import os
@@ -31,7 +31,8 @@ from rules import MEMORY, P, Broken, Program, require
 
 def spoiled(drawn, batch, found, lengths):
     """A batch whose first report has another word, and the verdict that it then has. The circuit has one gadget."""
-    shares, start = found.shares * (lengths.meas + found.proofs * lengths.proof), len(batch) - found.size * found.reports + 16
+    shares = found.shares * (lengths.meas + found.proofs * lengths.proof)
+    start = len(batch) - found.size * found.reports + 16
     kind, proof = drawn.randrange(3), drawn.randrange(found.proofs)
     if kind == 0:
         place = drawn.randrange(shares)

@@ -373,8 +373,8 @@ def check_copies(program, batch, reply):
         return
     party = len(batch.given) % batch.shares
     buckets = len(batch.given) % 256 + 1
-    made = {"upgrade": (["--buckets", str(buckets), "--bucket", str(buckets - 1)], upgraded(batch, buckets, buckets - 1)),
-            "deal": (["--party", str(party)], dealt(batch, party))}
+    into = ["--buckets", str(buckets), "--bucket", str(buckets - 1)]
+    made = {"upgrade": (into, upgraded(batch, buckets, buckets - 1)), "deal": (["--party", str(party)], dealt(batch, party))}
     for name, (words, wanted) in made.items():
         if not program.knows(name, *words):
             continue
