@@ -58,11 +58,9 @@ fn shape_of(header: &Header, plan: &Plan) -> Shape
 fn check_written(shape: &Shape, claims: u32, buckets: u32) -> Result<(), BatchFault>
     ensures { result_err result ≡ large_fault (written_shape buckets shape.now) claims }
 {
-    let written = Shape {
-        version: 2,
-        buckets,
-        ..*shape
-    };
+    let mut written = *shape;
+    written.version = 2;
+    written.buckets = buckets;
     let record = written.bytes();
     if RECORD_LIMIT < record {
         return Err(BatchFault::TooLarge(record));
