@@ -79,11 +79,11 @@ batch-one setting never one party statuses lines replies bytes (Refused (Place p
 
 -- ---- the end
 
-file-known : (statuses : List ℕ) (fault : BatchFault) → IsTrue (is_one_of (file_status fault) (6 ∷ 7 ∷ statuses))
+pub file-known : (statuses : List ℕ) (fault : BatchFault) → IsTrue (is_one_of (file_status fault) (6 ∷ 7 ∷ statuses))
 file-known statuses fault = ⊎_elim (λ (six : file_status fault ≡ 6). rw six refl) (λ (seven : file_status fault ≡ 7). rw seven refl) (file-status fault)
 
 -- a fault with status 7 stands in front of the records
-text-status : (fault : EngineFault) → engine_status fault ≡ 7 → IsOfFront fault
+pub text-status : (fault : EngineFault) → engine_status fault ≡ 7 → IsOfFront fault
 text-status Memory is = omega arith
 text-status Read is = omega arith
 text-status Write is = omega arith

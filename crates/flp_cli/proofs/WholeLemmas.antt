@@ -30,12 +30,13 @@ use Rattle.flp_verify.specs.Text.{verdict_lines}
 use Rattle.flp_prep.specs.Text.{prepared_lines}
 use Rattle.flp_explain.specs.Text.{explained_lines}
 use Rattle.flp_words.specs.declared.command.Command.{Command}
-use Rattle.flp_words.specs.declared.command.Command.TheVariants.{Verify, Prove, Lengths, Prep, Explain, Hide, Trial}
+use Rattle.flp_words.specs.declared.command.Command.TheVariants.{Verify, Prove, Lengths, Prep, Explain, Hide, Trial, Upgrade}
 use Rattle.flp_io.specs.Reads.{ConsumesAtMost}
 use Rattle.flp_lengths.specs.Reading.{judged_text}
 use Rattle.flp_lengths.specs.Reply.{WritesLengths, StopsInLengths, StopsBy, IsFaultOfText}
 use Rattle.flp_lengths.specs.Text.{lengths_text}
 use Rattle.flp_trial.specs.Laws as trial
+use Rattle.flp_upgrade.specs.Laws as upgrade
 use Rattle.flp_lines.specs.declared.fault.FileKind.{FileKind}
 use Rattle.flp_lines.specs.declared.fault.FileKind.TheVariants as kind
 use Rattle.flp_lines.specs.Fault.{memory_line}
@@ -48,6 +49,7 @@ use Rattle.flp_cli.specs.Stream.{Stream, Says}
 use Rattle.flp_cli.proofs.StatusLemmas.{file-status, whole-text}
 use Rattle.flp_cli.proofs.BatchLemmas.{OneSetting, NeverBoth, OneFault, batch-one, lines-one, batch-unread}
 use Rattle.flp_cli.proofs.TrialLemmas.{trial-one}
+use Rattle.flp_cli.proofs.UpgradeLemmas.{upgrade-one, upgrade-unread}
 use Rattle.flp_cli.proofs.RunLemmas.{not_refused, end-done, end-failed, run-memory, still, within-none}
 
 -- ---- a command that reads a job file
@@ -212,15 +214,16 @@ lengths-ends input output (Err fault) done stopped ends =
 
 -- ---- one reply, whichever the command
 
-pub one-reply : OneSetting → NeverBoth → OneFault → jobs.NeverBoth → jobs.OneRefusal → load.NeverBoth → trial.NeverBoth → trial.OneFault
+pub one-reply : OneSetting → NeverBoth → OneFault → jobs.NeverBoth → jobs.OneRefusal → load.NeverBoth → trial.NeverBoth → trial.OneFault → upgrade.NeverBoth → upgrade.OneFault
     → (would : Answers) (command : Command) → HasOneReply (duty_of would command)
-one-reply setting never fault jobs refusal text trial one_trial would (Verify workers least claims) = batch-one setting never fault None (9 ∷ []) verdict_lines (verify_reply least would claims)
-one-reply setting never fault jobs refusal text trial one_trial would Prove = jobs-one jobs refusal prove_rules batch_text
-one-reply setting never fault jobs refusal text trial one_trial would Lengths = lengths-one text
-one-reply setting never fault jobs refusal text trial one_trial would (Prep party) = lines-one setting never fault (Some party) (prepared_lines party)
-one-reply setting never fault jobs refusal text trial one_trial would (Explain joint) = lines-one setting never fault None (explained_lines joint)
-one-reply setting never fault jobs refusal text trial one_trial would Hide = jobs-one jobs refusal hide_rules hidden_text
-one-reply setting never fault jobs refusal text trial one_trial would (Trial workers seed reports) = trial-one trial one_trial seed reports
+one-reply setting never fault jobs refusal text trial one_trial new one_new would (Verify workers least claims) = batch-one setting never fault None (9 ∷ []) verdict_lines (verify_reply least would claims)
+one-reply setting never fault jobs refusal text trial one_trial new one_new would Prove = jobs-one jobs refusal prove_rules batch_text
+one-reply setting never fault jobs refusal text trial one_trial new one_new would Lengths = lengths-one text
+one-reply setting never fault jobs refusal text trial one_trial new one_new would (Prep party) = lines-one setting never fault (Some party) (prepared_lines party)
+one-reply setting never fault jobs refusal text trial one_trial new one_new would (Explain joint) = lines-one setting never fault None (explained_lines joint)
+one-reply setting never fault jobs refusal text trial one_trial new one_new would Hide = jobs-one jobs refusal hide_rules hidden_text
+one-reply setting never fault jobs refusal text trial one_trial new one_new would (Trial workers seed reports) = trial-one trial one_trial seed reports
+one-reply setting never fault jobs refusal text trial one_trial new one_new would (Upgrade buckets bucket) = upgrade-one new one_new buckets bucket
 
 -- ---- no memory for the words
 
@@ -253,6 +256,7 @@ unread would (Explain joint) left taken reads writes errors line =
 unread would Hide left taken reads writes errors line = jobs-unread hide_rules hidden_text left taken reads writes errors line
 unread would (Trial workers seed reports) left taken reads writes errors line =
     text-unread kind.Batch (6 ∷ 7 ∷ []) (trial_reply seed reports) left taken reads writes errors line
+unread would (Upgrade buckets bucket) left taken reads writes errors line = upgrade-unread buckets bucket left taken reads writes errors line
 
 -- the run of a command that has another name
 pub run-for : (would : Answers) (command other : Command) (input output errors : Stream) (status : ℕ) → command ≡ other

@@ -27,10 +27,12 @@ use Rattle.flp_lengths.specs.Reading.{judged_text, ReadsFault}
 use Rattle.flp_lengths.specs.Reply.{IsFaultOfText}
 use Rattle.flp_lengths.specs.Text.{lengths_text}
 use Rattle.flp_trial.specs.Reply.{IsTrial, IsFaultOfTrial}
+use Rattle.flp_upgrade.specs.File as old
+use Rattle.flp_upgrade.specs.Reply as new
 use Rattle.flp_lines.specs.declared.fault.FileKind.{FileKind}
 use Rattle.flp_lines.specs.declared.fault.FileKind.TheVariants as kind
 use Rattle.flp_words.specs.declared.command.Command.{Command}
-use Rattle.flp_words.specs.declared.command.Command.TheVariants.{Verify, Prove, Lengths, Prep, Explain, Hide, Trial}
+use Rattle.flp_words.specs.declared.command.Command.TheVariants.{Verify, Prove, Lengths, Prep, Explain, Hide, Trial, Upgrade}
 use Rattle.flp_cli.specs.Runs.{Reply, Done, Withheld, Refused, Duty}
 use Rattle.flp_cli.specs.Stream.{Stream}
 
@@ -157,6 +159,30 @@ trial_reply seed reports bytes (Refused (Place place fault)) = ⊥
 abbrev pub trial_duty : (seed reports : ℕ) → Duty
 trial_duty seed reports = text_duty kind.Batch (6 ∷ 7 ∷ []) (trial_reply seed reports)
 
+-- ---- `upgrade`, whose text is a batch
+
+-- bytes can be written as a batch of so many buckets, and this is the batch; or their first fault, which is for what is written
+abbrev pub upgrade_reply : (buckets bucket : ℕ) → List ℕ → Reply → Type 0
+upgrade_reply buckets bucket bytes (Done text) = new.Upgrades buckets bucket bytes text
+upgrade_reply buckets bucket bytes (Withheld text) = ⊥
+upgrade_reply buckets bucket bytes (Refused (File fault)) = old.IsUpgradeFault buckets bytes fault
+upgrade_reply buckets bucket bytes (Refused (Place place fault)) = ⊥
+
+-- nothing was written, or a prefix of the head, the old claims and the records that were read whole; nothing of a file whose
+-- circuit is refused
+pub record WritesFrontOfBatch (buckets bucket status : ℕ) (input output : Stream) : Type 0 where
+  pub front : new.StopsEarly buckets bucket input.old input.new output.old output.new
+  pub kept : status ≡ 7 → Keeps output.old output.new
+
+abbrev pub upgrade_duty : (buckets bucket : ℕ) → Duty
+upgrade_duty buckets bucket = record {
+  kind = kind.Batch;
+  statuses = 6 ∷ 7 ∷ [];
+  replies = upgrade_reply buckets bucket;
+  early = WritesFrontOfBatch buckets bucket;
+  takes = old.TakesFew;
+}
+
 -- ---- the table of commands
 
 abbrev pub duty_of : Answers → Command → Duty
@@ -167,3 +193,4 @@ duty_of would (Prep party) = lines_duty (Some party) (prepared_lines party)
 duty_of would (Explain joint) = lines_duty None (explained_lines joint)
 duty_of would Hide = jobs_duty hide_rules hidden_text
 duty_of would (Trial workers seed reports) = trial_duty seed reports
+duty_of would (Upgrade buckets bucket) = upgrade_duty buckets bucket

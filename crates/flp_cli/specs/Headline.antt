@@ -16,6 +16,7 @@ use Rattle.flp_jobs.specs.Reply.{IsProvable}
 use Rattle.flp_jobs.specs.Laws.{ReadsBack, IsHonestlyMade}
 use Rattle.flp_reseed.specs.Laws.{SeedsMatch}
 use Rattle.flp_trial.specs.Places.{PlacesAreFound, StandardIsValid}
+use Rattle.flp_upgrade.specs.Laws.{ReadsAsUpgraded}
 
 -- what holds of the verdicts on records, and of their aggregate, where they stand in a file with this setting and a
 -- circuit with these parameters
@@ -51,3 +52,5 @@ pub record Headline : Type 0 where
   -- what is found at each place of a trial, and that what a standard circuit's place encodes is valid
   pub places : PlacesAreFound
   pub standard : StandardIsValid
+  -- what `upgrade` writes is a batch of version 2 with the very same reports, each in the one bucket
+  pub upgraded : ReadsAsUpgraded

@@ -19,6 +19,7 @@ use flp_pool::Gate;
 use flp_prep::prep;
 use flp_reseed::hide;
 use flp_trial::trial;
+use flp_upgrade::upgrade;
 use flp_verify::{End, EngineFault, verify};
 use flp_words::Command;
 use std::alloc::Global;
@@ -67,6 +68,7 @@ fn kind_of(command: Command) -> FileKind
         Command::Explain { .. } => FileKind::Batch,
         Command::Hide => FileKind::Job,
         Command::Trial { .. } => FileKind::Batch,
+        Command::Upgrade { .. } => FileKind::Batch,
     }
 }
 
@@ -114,6 +116,9 @@ fn perform<R: Threads + Sync, S: Source, K: Sink, G: Gate>(
             seed,
             reports,
         } => by_file(all_done(trial(rt, alloc, input, output, seed, reports, workers, gate))),
+        Command::Upgrade { buckets, bucket } => {
+            by_file(all_done(upgrade(alloc, buckets, bucket, input, output)))
+        }
     }
 }
 
@@ -125,6 +130,7 @@ fn one_reply()
     flp_jobs::laws::one_answer();
     flp_load::laws::one_answer();
     flp_trial::laws::one_answer();
+    flp_upgrade::laws::one_answer();
 }
 
 /// The status of a command that ended so, and the line on `errors` where it failed.

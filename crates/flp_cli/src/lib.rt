@@ -13,6 +13,7 @@
 //! | `prep` | a batch | the verifier words of one share of each report | `flp_prep` |
 //! | `explain` | a batch | the query word that limits each proof, and the joint word that catches each encoding | `flp_explain` |
 //! | `trial` | a circuit text | how many reports of a batch that is made from a seed have which verdict, and their aggregate | `flp_trial` |
+//! | `upgrade` | a batch of version 1 | the batch of version 2 with the same reports, all in one bucket | `flp_upgrade` |
 //! | `hide` | a job file | the seeds that hide which measurement stands in a place | `flp_reseed` |
 //!
 //! [`without_words`] is what a program does that cannot have its words.

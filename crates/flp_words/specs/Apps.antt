@@ -51,6 +51,10 @@ trial_app =
     with_rule (with_rule (with_rule (new_app (codes "trial")) (required_option (codes "seed")))
     (required_option (codes "reports"))) (required_option (codes "workers"))
 
+-- `upgrade --buckets B --bucket K`
+abbrev pub upgrade_app : App
+upgrade_app = with_rule (with_rule (new_app (codes "upgrade")) (required_option (codes "buckets"))) (required_option (codes "bucket"))
+
 -- the program, with the first two of its commands
 abbrev pub first_app : App
 first_app = with_subcommand (with_subcommand (new_app (codes "flp")) verify_app.top) prove_app.top
@@ -59,10 +63,10 @@ first_app = with_subcommand (with_subcommand (new_app (codes "flp")) verify_app.
 abbrev pub middle_app : App
 middle_app = with_subcommand (with_subcommand first_app lengths_app.top) prep_app.top
 
--- with all but one
+-- with all but two
 abbrev pub last_app : App
 last_app = with_subcommand (with_subcommand middle_app explain_app.top) hide_app.top
 
 -- the program, with a subcommand for each command
 abbrev pub flp_app : App
-flp_app = with_subcommand last_app trial_app.top
+flp_app = with_subcommand (with_subcommand last_app trial_app.top) upgrade_app.top

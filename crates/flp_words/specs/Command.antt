@@ -1,14 +1,14 @@
 -- The command that the words of the command line name, from the words down to one option.
-use Rattle.std.specs.Prelude.{ℕ, ◌≤◌, Bool, false, List, [], ◌∷◌, Option, Some, None, ⊤, option_map, option_and_then, if◌then◌else◌, codes}
+use Rattle.std.specs.Prelude.{ℕ, ◌-◌, ◌≤◌, ◌<◌, Bool, false, List, [], ◌∷◌, Option, Some, None, ⊤, option_map, option_and_then, if◌then◌else◌, codes}
 use Rattle.std.specs.Option.{option_map_or}
 use Rattle.std.specs.Str.{bytes_eq}
 use Rattle.clap.specs.Words.{Kinds, Row, Text, fault_of, first_of, subcommand_of}
 use Rattle.flp_words.specs.declared.command.Command.{Command}
-use Rattle.flp_words.specs.declared.command.Command.TheVariants.{Verify, Prove, Lengths, Prep, Explain, Hide, Trial}
+use Rattle.flp_words.specs.declared.command.Command.TheVariants.{Verify, Prove, Lengths, Prep, Explain, Hide, Trial, Upgrade}
 use Rattle.flp_words.specs.Number.{number_in}
 use Rattle.flp_words.specs.Apps.{flp_app}
 
--- 1 to 16 workers, a party from 0 to 15, and at most 1,000,000 reports of a trial
+-- 1 to 16 workers, a party from 0 to 15, at most 1,000,000 reports of a trial, and one of 1 to 256 buckets
 abbrev pub IsInRange : Command → Type 0
 IsInRange (Verify workers least claims) = (1 ≤ workers) × (workers ≤ 16)
 IsInRange (Prep party) = party ≤ 15
@@ -17,6 +17,7 @@ IsInRange Lengths = ⊤
 IsInRange (Explain joint) = ⊤
 IsInRange Hide = ⊤
 IsInRange (Trial workers seed reports) = (1 ≤ workers) × (workers ≤ 16) × (reports ≤ 1000000)
+IsInRange (Upgrade buckets bucket) = (1 ≤ buckets) × (buckets ≤ 256) × (bucket < buckets)
 
 -- the number of an option, where it has a value and that is in the range
 abbrev pub number_of : List Row → Text → ℕ → ℕ → Option ℕ
@@ -42,6 +43,12 @@ trial_in rows =
     option_and_then (λ workers. option_and_then (λ seed. option_map (λ reports. Trial workers seed reports)
     (number_of rows (codes "reports") 0 1000000)) (number_of rows (codes "seed") 0 4294967295)) (number_of rows (codes "workers") 1 16)
 
+-- `upgrade` with 1 to 256 buckets, and one of them
+abbrev pub upgrade_in : List Row → Option Command
+upgrade_in rows =
+    option_and_then (λ buckets. option_map (λ bucket. Upgrade buckets bucket)
+    (number_of rows (codes "bucket") 0 (buckets - 1))) (number_of rows (codes "buckets") 1 256)
+
 -- `explain` with the wish for what joint words tell
 abbrev pub explain_in : List Row → Command
 explain_in rows = Explain (is_given rows (codes "joint"))
@@ -56,7 +63,8 @@ command_by_name name rows =
     else (if bytes_eq name (codes "explain") then Some (explain_in rows)
     else (if bytes_eq name (codes "hide") then Some Hide
     else (if bytes_eq name (codes "trial") then trial_in rows
-    else None))))))
+    else (if bytes_eq name (codes "upgrade") then upgrade_in rows
+    else None)))))))
 
 -- the command of the subcommand that `clap` met
 abbrev pub command_at : Option (Text × List Row) → Option Command

@@ -2,7 +2,7 @@
 ghost use Rattle.std.specs.Prelude.{◌≡◌, IfOk, false};
 ghost use Rattle.clap.specs.Words.{app_of, rule_of};
 ghost use Rattle.clap.specs.declared.builder.command.Command.TheViews.{out-Command as fields_of};
-ghost use Rattle.flp_words.specs.Apps.{value_option, required_option, default_option, flag, verify_app, prep_app, explain_app, trial_app, first_app, middle_app, last_app, flp_app};
+ghost use Rattle.flp_words.specs.Apps.{value_option, required_option, default_option, flag, verify_app, prep_app, explain_app, trial_app, upgrade_app, first_app, middle_app, last_app, flp_app};
 
 use clap::{Arg, ArgAction, Command};
 use std::alloc::{AllocError, Global};
@@ -77,6 +77,16 @@ fn trial_app<'a>(alloc: Global) -> Result<Command<'a>, AllocError>
         .arg(required_option(alloc, "workers"))
 }
 
+/// `upgrade --buckets B --bucket K`.
+fn upgrade_app<'a>(alloc: Global) -> Result<Command<'a>, AllocError>
+    ensures app { IfOk result (λ c. app_of c ≡ upgrade_app) }
+    ensures local { IfOk result (λ c. (fields_of c).has_globals ≡ false) }
+{
+    Command::new(alloc, "upgrade")
+        .arg(required_option(alloc, "buckets"))?
+        .arg(required_option(alloc, "bucket"))
+}
+
 /// The program, with the first two of its commands: a part of a list that is too long for one proof.
 fn first_app<'a>(alloc: Global) -> Result<Command<'a>, AllocError>
     ensures app { IfOk result (λ c. app_of c ≡ first_app) }
@@ -95,7 +105,7 @@ fn middle_app<'a>(alloc: Global) -> Result<Command<'a>, AllocError>
         .subcommand(prep_app(alloc)?)
 }
 
-/// With all but one.
+/// With all but two.
 fn last_app<'a>(alloc: Global) -> Result<Command<'a>, AllocError>
     ensures app { IfOk result (λ c. app_of c ≡ last_app) }
 {
@@ -108,5 +118,7 @@ fn last_app<'a>(alloc: Global) -> Result<Command<'a>, AllocError>
 pub fn flp_app<'a>(alloc: Global) -> Result<Command<'a>, AllocError>
     ensures app { IfOk result (λ c. app_of c ≡ flp_app) }
 {
-    last_app(alloc)?.subcommand(trial_app(alloc)?)
+    last_app(alloc)?
+        .subcommand(trial_app(alloc)?)?
+        .subcommand(upgrade_app(alloc)?)
 }

@@ -1,7 +1,7 @@
 //! Commands, and the one that the words name.
 ghost use Rattle.std.specs.Prelude.{◌≡◌, ◌≢◌, ◌≤◌, IfOk, IfSome, map, option_map, None};
 ghost use Rattle.clap.specs.Words.{first_of, found_of, kind_of, rows_of, subcommand_rows_of};
-ghost use Rattle.flp_words.specs.Command.{IsInRange, command_in, command_at, command_by_name, number_of, is_given, verify_in, prep_in, explain_in, trial_in};
+ghost use Rattle.flp_words.specs.Command.{IsInRange, command_in, command_at, command_by_name, number_of, is_given, verify_in, prep_in, explain_in, trial_in, upgrade_in};
 
 use crate::apps::flp_app;
 use crate::number::number_in;
@@ -43,6 +43,13 @@ pub enum Command {
         seed: u32,
         /// How many reports, at most 1,000,000.
         reports: u32,
+    },
+    /// Write a batch of version 1 as one of version 2, all reports in one bucket.
+    Upgrade {
+        /// How many buckets, from 1 to 256.
+        buckets: u32,
+        /// The bucket, which is below their number.
+        bucket: u32,
     },
 }
 
@@ -100,6 +107,16 @@ fn trial_in(matches: &ArgMatches<'_>) -> Option<Command>
     })
 }
 
+/// `upgrade`, with the number of buckets and the bucket of all reports.
+fn upgrade_in(matches: &ArgMatches<'_>) -> Option<Command>
+    ensures command { result ≡ upgrade_in (rows_of (found_of matches.now)) }
+    ensures range { IfSome result IsInRange }
+{
+    let buckets = number_of(matches, "buckets", 1, 256)?;
+    let bucket = number_of(matches, "bucket", 0, buckets - 1)?;
+    Some(Command::Upgrade { buckets, bucket })
+}
+
 /// `explain`, with the wish for what joint words tell.
 fn explain_in(matches: &ArgMatches<'_>) -> Command
     ensures { result ≡ explain_in (rows_of (found_of matches.now)) }
@@ -122,6 +139,7 @@ fn command_by_name(name: &str, matches: &ArgMatches<'_>) -> Option<Command>
         "explain" => Some(explain_in(matches)),
         "hide" => Some(Command::Hide),
         "trial" => trial_in(matches),
+        "upgrade" => upgrade_in(matches),
         _ => None,
     }
 }

@@ -14,8 +14,9 @@
 //! | `explain --joint` | [`Command::Explain`] |
 //! | `hide` | [`Command::Hide`] |
 //! | `trial --seed X --reports N --workers W`, X to 4,294,967,295, N to 1,000,000, W from 1 to 16 | [`Command::Trial`] |
+//! | `upgrade --buckets B --bucket K`, B from 1 to 256, K below B | [`Command::Upgrade`] |
 //!
-//! `--workers`, `--party`, `--seed` and `--reports` must be given; M is 0 where `--min` is not, and `--claims` and `--joint` are flags without a value.
+//! `--workers`, `--party`, `--seed`, `--reports`, `--buckets` and `--bucket` must be given; M is 0 where `--min` is not, and `--claims` and `--joint` are flags without a value.
 //!
 //! A further command is one variant of [`Command`], one declaration in `apps.rt` and one line in
 //! `command_by_name`, each with its line in `specs/`.

@@ -9,6 +9,7 @@ use Rattle.flp_reseed.specs.Reply.{hide_rules}
 use Rattle.flp_reseed.specs.Text.{hidden_text}
 use Rattle.flp_cli.proofs.WholeLemmas.{jobs-ends, lengths-ends}
 use Rattle.flp_cli.proofs.TrialLemmas.{trial-ends}
+use Rattle.flp_cli.proofs.UpgradeLemmas.{upgrade-ends}
 use Rattle.flp_cli.proofs.commands.perform.Goals as goal
 
 pub returns-in-Verify : goal.returns-in-Verify
@@ -52,9 +53,16 @@ returns-in-Hide g c =
     rw (c.in-Hide.is, c.all_done-in-Hide.ensures)
     (jobs-ends hide_rules hidden_text _ _ c.hide.result answer.done answer.kept answer.stopped answer.ends)
 
-pub returns : goal.returns
-returns g c =
+pub returns-in-Trial : goal.returns-in-Trial
+returns-in-Trial g c =
     let answer = c.trial.ensures in
     let trial = c.in-Trial in
     rw (trial.is, c.by_file-in-Trial.ensures, c.all_done-in-Trial.ensures)
     (trial-ends trial.seed trial.reports _ _ c.trial.result answer.done answer.stopped answer.ends)
+
+pub returns : goal.returns
+returns g c =
+    let answer = c.upgrade.ensures in
+    let upgrade = c.in-Upgrade in
+    rw (upgrade.is, c.by_file-in-Upgrade.ensures, c.all_done-in-Upgrade.ensures)
+    (upgrade-ends upgrade.buckets upgrade.bucket _ _ c.upgrade.result answer.done answer.stopped answer.kept answer.ends)

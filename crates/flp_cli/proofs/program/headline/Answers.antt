@@ -32,4 +32,5 @@ returns c = record {
   seeds = c.seeds_match.ensures;
   places = c.places.ensures.found;
   standard = c.places.ensures.standard;
+  upgraded = c.reads_back-2.ensures;
 }
