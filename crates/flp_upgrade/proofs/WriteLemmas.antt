@@ -85,7 +85,7 @@ Stops-front buckets bucket o left taken taken' front = record {
   records = [];
   tail = [];
   number = omega arith;
-  sizes = tt;
+  sizes = All-nil (λ (r : List ℕ). length r ≡ bytes_of o.shape);
   read = Consumes-nil left;
   written = TakesPrefix-more taken taken' (front_upgraded buckets o.header (nonces_in o.claims)) [] front;
 }
