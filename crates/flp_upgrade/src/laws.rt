@@ -16,6 +16,4 @@ pub fn one_answer()
 /// each in the one bucket.
 pub fn reads_back()
     ensures { ReadsAsUpgraded }
-{
-    flp_report::laws::reads_back();
-}
+{}
