@@ -125,7 +125,7 @@ fault_behind-read buckets left mid o opens rest =
     let bytes = opens.front ++ rest in
     let whole = split o.shape opens.front rest o.header f in
     let small = ap (λ (b : List ℕ). large_fault (written_shape buckets o.shape) (number_at 24 b)) whole
-        ∙ large-more buckets f.head (f.claims ++ rest) o.header o.shape None f.says opens.fits in
+    ∙ large-more buckets f.head (f.claims ++ rest) o.header o.shape None f.says opens.fits in
     first_of-next _ _ small ∙ first_of-last (fault_of newest_upgraded None o.shape bytes)
 
 -- a fault of the records

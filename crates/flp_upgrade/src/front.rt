@@ -23,7 +23,8 @@ use flp_io::Source;
 use flp_load::load_circuit;
 use flp_plan::Plan;
 use flp_report::{
-    BatchFault, BatchReader, CLAIMS_LIMIT, Header, Nonces, RECORD_LIMIT, ReadFault, Shape, WIDTH_LIMIT,
+    BatchFault, BatchReader, CLAIMS_LIMIT, Header, Nonces, RECORD_LIMIT, ReadFault, Shape,
+    WIDTH_LIMIT,
 };
 use std::alloc::Global;
 

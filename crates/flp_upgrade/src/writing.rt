@@ -43,11 +43,7 @@ fn write_both<K: Sink>(output: &mut K, header: &Header, claims: &Nonces) -> Resu
 }
 
 /// Writes what stands in front of the records, in so many buckets, and gives back what was opened.
-fn write_front<K: Sink>(
-    opened: Opened,
-    buckets: u32,
-    output: &mut K,
-) -> Result<Opened, EngineFault>
+fn write_front<K: Sink>(opened: Opened, buckets: u32, output: &mut K) -> Result<Opened, EngineFault>
     requires ready { K.ready output.old }
     requires text { length opened.header.text ≤ 65536 }
     ensures same { IfOk result (λ o. o ≡ opened) }
