@@ -1,15 +1,16 @@
 -- No file has two answers.
-use Rattle.std.proofs.Common.{◌≡◌, ℕ, ◌≤◌, List, [], ◌∷◌, Bool, nat_lt, drop, Option, Some, None, inl, inr, refl, sym, ap, subst, ◌∙◌, arith}
+use Rattle.std.proofs.Common.{◌≡◌, ℕ, ◌≤◌, List, [], ◌∷◌, Bool, not, nat_eq, nat_lt, drop, Option, Some, None, inl, inr, refl, sym, ap, subst, ◌∙◌, arith}
 use Rattle.std.proofs.lemmas.Bool.{le-ltb}
+use Rattle.std.specs.List.{starts_with}
 use Rattle.flp_syntax.specs.declared.syntax.Params.{Params}
 use Rattle.flp_load.specs.declared.fault.CircuitFault.{CircuitFault}
 use Rattle.flp_load.specs.Laws as load
 use Rattle.flp_report.specs.declared.fault.BatchFault.{BatchFault}
-use Rattle.flp_report.specs.declared.fault.BatchFault.TheVariants.{Version}
+use Rattle.flp_report.specs.declared.fault.BatchFault.TheVariants.{Magic, Version, Shares, Proofs, TextLength}
 use Rattle.flp_report.specs.declared.shape.Shape.{Shape}
-use Rattle.flp_report.specs.Fault.{met, first_of}
-use Rattle.flp_report.specs.Head.{number_at, numbers_fault}
-use Rattle.flp_report.specs.Batch.{batch_letters, batch_head_fault, header_of, claims_of}
+use Rattle.flp_report.specs.Fault.{met, first_of, ended}
+use Rattle.flp_report.specs.Head.{number_at, numbers_fault, party_fault}
+use Rattle.flp_report.specs.Batch.{batch_letters, batch_head_fault, batch_text_end, text_start, buckets_fault, header_of, claims_of}
 use Rattle.flp_report.proofs.FaultLemmas.{first_of-next, no-first, none-above}
 use Rattle.flp_batch.specs.declared.fault.EngineFault.{EngineFault}
 use Rattle.flp_batch.specs.declared.fault.EngineFault.TheVariants.{Memory, Read, Write, Batch, Circuit}
@@ -22,22 +23,56 @@ use Rattle.flp_upgrade.specs.Reply.{Upgrades, upgraded_of}
 
 -- ---- one shape
 
+-- what is tried of the letters and numbers of a head behind its version, and all of it
+abbrev behind_version : Option ℕ → List ℕ → List (Option BatchFault)
+behind_version party bytes =
+    met (nat_lt (number_at 12 bytes) 2) (Shares (number_at 12 bytes))
+    ∷ met (nat_lt 16 (number_at 12 bytes)) (Shares (number_at 12 bytes))
+    ∷ met (nat_lt (number_at 16 bytes) 1) (Proofs (number_at 16 bytes))
+    ∷ met (nat_lt 16 (number_at 16 bytes)) (Proofs (number_at 16 bytes))
+    ∷ party_fault party (number_at 12 bytes)
+    ∷ met (nat_lt 65536 (number_at 20 bytes)) (TextLength (number_at 20 bytes))
+    ∷ []
+
+abbrev not_letters : List ℕ → Option BatchFault
+not_letters bytes = met (not (starts_with nat_eq bytes batch_letters)) Magic
+
+abbrev above : (limit : ℕ) → List ℕ → Option BatchFault
+above limit bytes = met (nat_lt limit (number_at 8 bytes)) (Version (number_at 8 bytes))
+
+abbrev below_one : List ℕ → Option BatchFault
+below_one bytes = met (nat_lt (number_at 8 bytes) 1) (Version (number_at 8 bytes))
+
+abbrev pub numbers_tried : (newest : ℕ) → Option ℕ → List ℕ → List (Option BatchFault)
+numbers_tried newest party bytes = not_letters bytes ∷ below_one bytes ∷ above newest bytes ∷ behind_version party bytes
+
+abbrev behind_numbers : List ℕ → List (Option BatchFault)
+behind_numbers bytes =
+    buckets_fault (number_at 8 bytes) (drop 32 bytes)
+    ∷ ended (text_start bytes) (batch_text_end bytes) (drop (text_start bytes) bytes)
+    ∷ []
+
 -- a head that is read where versions up to one are read is read where newer ones are too
 newer-numbers : (first second : ℕ) (party : Option ℕ) (bytes : List ℕ) → first ≤ second → numbers_fault batch_letters first party bytes ≡ None → numbers_fault batch_letters second party bytes ≡ None
 newer-numbers first second party bytes more none =
     let version = number_at 8 bytes in
-    let a = no-first _ _ none in
-    let b = no-first _ _ a.1 in
-    let c = no-first _ _ b.1 in
+    let tests = behind_version party bytes in
+    let a = no-first (not_letters bytes) (below_one bytes ∷ above first bytes ∷ tests) none in
+    let b = no-first (below_one bytes) (above first bytes ∷ tests) a.1 in
+    let c = no-first (above first bytes) tests b.1 in
     let below : version ≤ second = omega (arith, none-above first version (Version version) c.0, more) in
-    let third : met (nat_lt second version) (Version version) ≡ None = ap (λ (t : Bool). met t (Version version)) (le-ltb second version below) in
-    first_of-next _ _ a.0 ∙ (first_of-next _ _ b.0 ∙ (first_of-next _ _ third ∙ c.1))
+    let third : above second bytes ≡ None = ap (λ (t : Bool). met t (Version version)) (le-ltb second version below) in
+    first_of-next (not_letters bytes) (below_one bytes ∷ above second bytes ∷ tests) a.0
+    ∙ (first_of-next (below_one bytes) (above second bytes ∷ tests) b.0 ∙ (first_of-next (above second bytes) tests third ∙ c.1))
 
 newer-head : (first second : ℕ) (party : Option ℕ) (bytes : List ℕ) → first ≤ second → batch_head_fault first party bytes ≡ None → batch_head_fault second party bytes ≡ None
 newer-head first second party bytes more none =
-    let a = no-first _ _ none in
-    let b = no-first _ _ a.1 in
-    first_of-next _ _ a.0 ∙ (first_of-next _ _ (newer-numbers first second party bytes more b.0) ∙ b.1)
+    let tests = behind_numbers bytes in
+    let old = numbers_fault batch_letters first party bytes in
+    let new = numbers_fault batch_letters second party bytes in
+    let a = no-first (ended 0 32 bytes) (old ∷ tests) none in
+    let b = no-first old tests a.1 in
+    first_of-next (ended 0 32 bytes) (new ∷ tests) a.0 ∙ (first_of-next new tests (newer-numbers first second party bytes more b.0) ∙ b.1)
 
 -- so what can be upgraded is a file that other commands read
 has-setting : (bytes : List ℕ) (shape : Shape) (h : HasShape bytes shape)

@@ -6,12 +6,14 @@ use Rattle.std.proofs.Math.Nat.{div-one, pow-suc, div-div-eq-div-mul, mul-add-di
 use Rattle.std.proofs.Math.Seq.{take-add}
 use Rattle.std.proofs.lemmas.Bool.{cases_lt, ne_eqb}
 use Rattle.std.specs.Option.{option_map}
-use Rattle.std.specs.Prelude.{if◌then◌else◌, ◌==◌, Bool}
+use Rattle.std.specs.Prelude.{if◌then◌else◌, ◌==◌, Bool, nat_lt}
 use Rattle.std.proofs.lemmas.List.{take_all, get_or_past, length-map}
 use Rattle.std.proofs.lemmas.List.Elements.{All-nil, All-cons, All-head, All-tail, All-take, All-drop, All-map, All-weaker, All-get_or}
 use Rattle.byteorder.specs.Endian.{little_from, little_number, little_bytes}
 use Rattle.byteorder.specs.Numbers.{little_from-cons, little_from-lt}
-use Rattle.flp_report.specs.declared.fault.BatchFault.TheVariants.{ClaimsOrder, Version, TextLength}
+use Rattle.flp_report.specs.declared.fault.BatchFault.TheVariants.{ClaimsOrder, Version, TextLength, Trailing}
+use Rattle.flp_report.specs.declared.fault.BatchFault.{BatchFault}
+use Rattle.flp_report.specs.Fault.{met, ended}
 use Rattle.flp_report.specs.declared.header.Header.{Header}
 use Rattle.flp_report.specs.declared.shape.Shape.{Shape}
 use Rattle.flp_report.specs.Shape.{words_of, words_start, bytes_of}
@@ -22,8 +24,8 @@ use Rattle.flp_report.specs.Record.{nonce_in, words_in}
 use Rattle.flp_report.specs.Report.{WrittenReport, IsReport, ReadsAs, record_written}
 use Rattle.flp_report.specs.Layout.{head_bytes, word_bytes, bucket_bytes, IsWritable}
 use Rattle.flp_report.specs.Batch.{text_start, batch_text_end, claims_end, large_fault, claims_fault, records_fault, front_fault, fault_of, header_of, claims_of, whole_of, whole_records, IsInLimits}
-use Rattle.flp_report.specs.Buckets.{HasBucket, placed}
-use Rattle.flp_report.proofs.FaultLemmas.{no-first, none-at, none-above, none-short}
+use Rattle.flp_report.specs.Buckets.{HasBucket, placed, bucket_fault}
+use Rattle.flp_report.proofs.FaultLemmas.{none-at, none-above, none-short}
 use Rattle.flp_report.proofs.BatchHeadLemmas.{numbers-none}
 use Rattle.flp_report.proofs.BucketLemmas.{placed-one, placed-behind}
 use Rattle.flp_report.proofs.LimitLemmas.{few-parts}
@@ -35,6 +37,7 @@ use Rattle.flp_batch.specs.Setting.{IsShapeBehind}
 use Rattle.flp_upgrade.specs.File.{newest_upgraded, head_fault_of, HasShape, IsUpgradable}
 use Rattle.flp_upgrade.specs.Laws.{report_in, ReadsAsUpgraded}
 use Rattle.flp_upgrade.specs.Reply.{upgraded_of}
+use Rattle.flp_upgrade.proofs.AnswerLemmas.{numbers_tried}
 use Rattle.flp_upgrade.specs.Upgraded.{written_shape, written_header, record_upgraded, front_upgraded, batch_upgraded}
 
 -- ---- numbers
@@ -158,25 +161,35 @@ no-fall (Some n) is = let no : ⊥ = cc in absurd no
 
 facts : (buckets : ℕ) (bytes : List ℕ) (shape : Shape) → IsUpgradable buckets bytes shape → Facts buckets bytes shape
 facts buckets bytes shape up =
-    let a = no-first _ _ up.no_fault in
-    let b = no-first _ _ (no-first _ _ a.1).0 in
-    let c = no-first _ _ b.0 in
-    let d = no-first _ _ (no-first _ _ c.1).1 in
-    let e = no-first _ _ d.0 in
-    let f = no-first _ _ (no-first _ _ b.1).0 in
-    let g = no-first _ _ f.1 in
+    let m = number_at 24 bytes in
+    let n = number_at 28 bytes in
+    let text = batch_text_end bytes in
+    let start = claims_end bytes in
+    let size = bytes_of shape in
+    let all = large_fault (written_shape buckets shape) m ∷ fault_of newest_upgraded None shape bytes ∷ [] in
+    let read = front_fault newest_upgraded None shape bytes ∷ records_fault shape start n (drop start bytes) ∷ [] in
+    let in_front = head_fault_of bytes ∷ large_fault shape m ∷ claims_fault text m (drop text bytes) ∷ [] in
+    let old = ended text (text + 16 * m) (drop text bytes) ∷ option_map ClaimsOrder (fall_in (pieces 16 m (drop text bytes))) ∷ [] in
+    let records =
+        bucket_fault shape 0 (whole_of shape n (drop start bytes))
+        ∷ ended start (start + n * size) (drop start bytes)
+        ∷ met (nat_lt (start + n * size) (start + length (drop start bytes))) Trailing
+        ∷ [] in
+    let none = none-at all 1 up.no_fault in
+    let front = none-at read 0 none in
+    let claims = none-at in_front 2 front in
     record {
-      written = a.0;
-      front = b.0;
-      claims_long = none-short (batch_text_end bytes) (claims_end bytes) (drop (batch_text_end bytes) bytes) e.0;
-      rising = no-fall (fall_in (claims_of bytes)) (no-first _ _ e.1).0;
-      records_long = none-short (claims_end bytes) (claims_end bytes + number_at 28 bytes * bytes_of shape) (drop (claims_end bytes) bytes) g.0;
+      written = none-at all 0 up.no_fault;
+      front = front;
+      claims_long = none-short text (text + 16 * m) (drop text bytes) (none-at old 0 claims);
+      rising = no-fall (fall_in (claims_of bytes)) (none-at old 1 claims);
+      records_long = none-short start (start + n * size) (drop start bytes) (none-at records 1 (none-at read 1 none));
     }
 
 -- it is of version 1
 is-old : (bytes : List ℕ) (shape : Shape) → HasShape bytes shape → number_at 8 bytes ≤ 1
 is-old bytes shape has =
-    none-above 1 (number_at 8 bytes) (Version (number_at 8 bytes)) (none-at _ 2 (numbers-none newest_upgraded None bytes has.head))
+    none-above 1 (number_at 8 bytes) (Version (number_at 8 bytes)) (none-at (numbers_tried newest_upgraded None bytes) 2 (numbers-none newest_upgraded None bytes has.head))
 
 -- so its records have no bucket
 other-version : (bytes : List ℕ) (shape : Shape) → HasShape bytes shape → shape.version ≢ 2
@@ -209,7 +222,7 @@ whole-records buckets bytes shape has f =
 writable : (buckets bucket : ℕ) (bytes : List ℕ) (shape : Shape) → buckets ≤ 256 → bucket < buckets → All IsByte bytes → HasShape bytes shape → IsWritable 2 None (written_header buckets (header_of bytes))
 writable buckets bucket bytes shape most inside all has =
     let few = few-parts newest_upgraded None bytes has.head in
-    let text : number_at 20 bytes ≤ 65536 = none-above 65536 (number_at 20 bytes) (TextLength (number_at 20 bytes)) (none-at _ 8 (numbers-none newest_upgraded None bytes has.head)) in
+    let text : number_at 20 bytes ≤ 65536 = none-above 65536 (number_at 20 bytes) (TextLength (number_at 20 bytes)) (none-at (numbers_tried newest_upgraded None bytes) 8 (numbers-none newest_upgraded None bytes has.head)) in
     let claims = little-below 4 (drop 24 bytes) (All-drop IsByte 24 bytes all) in
     let reports = little-below 4 (drop 28 bytes) (All-drop IsByte 28 bytes all) in
     record {

@@ -52,13 +52,14 @@ own-all s bytes whole =
     take_all (8 * (s.proofs * (s.joint + s.query))) (drop (own_start s 0) bytes) (omega (arith, length-drop (own_start s 0) bytes, whole, size))
 
 -- the nonce, the bucket, the parts of the shares and the words of the proofs are the record that is written
-pub record-joined : (s : Shape) (bucket : ℕ) (bytes line first second third fourth : List ℕ) → s.version ≢ 2
-    → first ≡ line ++ nonce_in bytes → second ≡ first ++ bucket_bytes (Some bucket)
-    → third ≡ second ++ take (8 * (s.shares * part_words s)) (drop (words_start s) bytes) → fourth ≡ third ++ drop (own_start s 0) bytes
+pub record-joined : (s : Shape) (bucket count : ℕ) (bytes line nonce second third fourth : List ℕ) → s.version ≢ 2 → count ≡ s.shares
+    → nonce ≡ nonce_in bytes → second ≡ line ++ (nonce ++ bucket_bytes (Some bucket))
+    → third ≡ second ++ take (8 * (count * part_words s)) (drop (words_start s) bytes) → fourth ≡ third ++ drop (own_start s 0) bytes
     → fourth ≡ line ++ record_upgraded bucket bytes
-record-joined s bucket bytes line first second third fourth one a b c d =
+record-joined s bucket count bytes line named second third fourth one same a b more d =
     let shares = 8 * (s.shares * part_words s) in
     let nonce = nonce_in bytes in
+    let c : third ≡ second ++ take shares (drop (words_start s) bytes) = more ∙ ap (λ (k : ℕ). second ++ take (8 * (k * part_words s)) (drop (words_start s) bytes)) same in
     let mark = bucket_bytes (Some bucket) in
     let words = drop (words_start s) bytes in
     let place : words_start s + shares ≡ own_start s 0 = omega arith in
@@ -67,6 +68,6 @@ record-joined s bucket bytes line first second third fourth one a b c d =
     d ∙ ap₂ (λ (l : List ℕ) (r : List ℕ). l ++ r) c rest
     ∙ append_assoc second (take shares words) (drop shares words)
     ∙ ap₂ (λ (l : List ℕ) (r : List ℕ). l ++ r) b (take-append-drop shares words ∙ start)
-    ∙ append_assoc first mark (drop 16 bytes)
-    ∙ ap (λ (l : List ℕ). l ++ (mark ++ drop 16 bytes)) a
-    ∙ append_assoc line nonce (mark ++ drop 16 bytes)
+    ∙ ap (λ (n : List ℕ). (line ++ (n ++ mark)) ++ drop 16 bytes) a
+    ∙ append_assoc line (nonce ++ mark) (drop 16 bytes)
+    ∙ ap (λ (l : List ℕ). line ++ l) (append_assoc nonce mark (drop 16 bytes))

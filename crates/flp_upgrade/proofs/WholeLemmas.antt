@@ -160,8 +160,8 @@ StopsEarly-front buckets bucket left left' taken taken' some kept = record { byt
 pub Ends-front : {T : Type 0} (buckets : ℕ) (left left' : Option (List ℕ)) (reads reads' writes : ℕ) (fault : EngineFault)
     → IfFile fault (λ f. IfSome left (λ bytes. IsUpgradeFault buckets bytes f)) → ConsumesWithin front_size left left'
     → (fault ≡ Read → Rose reads reads') → (fault ≡ Write → ⊥) → reads ≤ reads'
-    → Ends {T} (IsUpgradeFault buckets) TakesFew left left' reads reads' writes writes (Err fault)
-Ends-front buckets left left' reads reads' writes fault is few read write later = record {
+    → Ends {T = T} (IsUpgradeFault buckets) TakesFew left left' reads reads' writes writes (Err fault)
+Ends-front {T = T} buckets left left' reads reads' writes fault is few read write later = record {
   fault = is;
   few = inl few;
   read = λ same. let own : fault ≡ Read = cc in read own;

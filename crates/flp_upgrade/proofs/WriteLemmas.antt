@@ -3,18 +3,28 @@ use Rattle.std.proofs.Common.{◌≡◌, ℕ, ◌+◌, ◌*◌, ◌≤◌, List,
 use Rattle.std.specs.List.{concat, flat_map}
 use Rattle.std.specs.Io.KnownBytes.{Appends}
 use Rattle.std.proofs.KnownBytes.{Appends-trans, Consumes-nil}
-use Rattle.flp_io.specs.Writes.{TakesPrefix}
+use Rattle.std.proofs.lemmas.List.Elements.{All-nil}
+use Rattle.std.specs.Prelude.{IsOk, IsErr}
+use Rattle.flp_io.specs.Faults.{Rose}
+use Rattle.flp_io.specs.Reads.{ConsumesAtMost}
+use Rattle.flp_io.specs.Writes.{TakesPrefix, WritesTo}
+use Rattle.flp_io.proofs.ReadLemmas.{ConsumesAtMost-none}
 use Rattle.flp_io.proofs.WriteLemmas.{TakesPrefix-more, TakesPrefix-after}
 use Rattle.flp_report.specs.declared.nonces.Nonces.{Nonces}
 use Rattle.flp_report.specs.Nonces.{nonce_bytes, nonces_in}
+use Rattle.flp_report.specs.declared.header.Header.{Header}
+use Rattle.flp_report.specs.Layout.{head_bytes}
 use Rattle.flp_report.specs.Shape.{bytes_of}
 use Rattle.flp_report.proofs.PiecesLemmas.{IsCut-pieces}
 use Rattle.flp_batch.specs.declared.fault.EngineFault.{EngineFault}
+use Rattle.flp_batch.specs.declared.fault.EngineFault.TheVariants.{Write}
+use Rattle.flp_batch.specs.Ends.{Ends}
+use Rattle.flp_batch.specs.Opened.{records_size, IsRecordsFault}
 use Rattle.flp_batch.specs.declared.front.Opened.{Opened}
 use Rattle.flp_batch.specs.Lines.{lines_from, lines_of}
 use Rattle.flp_batch.specs.Walk.{Tells, StopsWalk}
 use Rattle.flp_upgrade.specs.Behind.{text_behind, Stops}
-use Rattle.flp_upgrade.specs.Upgraded.{record_upgraded, front_upgraded}
+use Rattle.flp_upgrade.specs.Upgraded.{written_header, record_upgraded, front_upgraded}
 use Rattle.flp_upgrade.specs.Upgrading.{upgraded_line, upgraded_words}
 
 -- the lines of records are the records that are written, whatever stood before them
@@ -89,3 +99,36 @@ Stops-front buckets bucket o left taken taken' front = record {
   read = Consumes-nil left;
   written = TakesPrefix-more taken taken' (front_upgraded buckets o.header (nonces_in o.claims)) [] front;
 }
+
+-- ---- the front
+
+-- the head and the bytes of the old claims are what stands in front of the records
+pub front-text : (buckets : ℕ) (header written : Header) (claims : Nonces) → written ≡ written_header buckets header
+    → head_bytes written ++ nonce_bytes claims ≡ front_upgraded buckets header (nonces_in claims)
+front-text buckets header written claims is =
+    ap (λ (h : Header). head_bytes h ++ nonce_bytes claims) is ∙ ap (λ (l : List ℕ). head_bytes (written_header buckets header) ++ l) (sym (concat-nonces claims))
+
+module _ {K : Type 0} {taken : K → Option (List ℕ)} {faults : K → ℕ} {spare : K → Option ℕ} {ready : K → Type 0} where
+  -- what was written, told on with another answer of the same kind
+  pub WritesTo-told : {T E U F : Type 0} {a b : K} (r : Result T E) (s : Result U F) (text more : List ℕ) → (IsOk r → IsOk s) → (IsErr r → IsErr s) → text ≡ more
+      → WritesTo taken faults spare ready a b text r → WritesTo taken faults spare ready a b more s
+  WritesTo-told {a = a} {b = b} (Ok x) (Ok y) text more ok err same p =
+      subst (λ (t : List ℕ). WritesTo taken faults spare ready a b t (Ok y)) same (record { whole = p.whole; front = p.front; room = p.room; uses = p.uses })
+  WritesTo-told {a = a} {b = b} (Err x) (Err y) text more ok err same p =
+      subst (λ (t : List ℕ). WritesTo taken faults spare ready a b t (Err y)) same (record { whole = p.whole; front = p.front; room = p.room; uses = p.uses })
+  WritesTo-told (Ok x) (Err y) text more ok err same p = let is = ok refl in let no : ⊥ = cc in absurd no
+  WritesTo-told (Err x) (Ok y) text more ok err same p = let is = err refl in let no : ⊥ = cc in absurd no
+
+-- where it failed, the input was not read
+pub Ends-unwritten : {T : Type 0} (o : Opened) (left : Option (List ℕ)) (reads writes writes' : ℕ) (fault : EngineFault) → fault ≡ Write → Rose writes writes' → writes ≤ writes'
+    → Ends {T = T} (IsRecordsFault o) (ConsumesAtMost (records_size o + 1)) left left reads reads writes writes' (Err fault)
+Ends-unwritten {T = T} o left reads writes writes' fault is rose later =
+    let here : Ends {T = T} (IsRecordsFault o) (ConsumesAtMost (records_size o + 1)) left left reads reads writes writes' (Err Write) = record {
+      fault = tt;
+      few = ConsumesAtMost-none (records_size o + 1) left;
+      read = λ same. let no : ⊥ = cc in absurd no;
+      write = λ same. rose;
+      later_in = omega arith;
+      later_out = later;
+    } in
+    subst (λ (f : EngineFault). Ends {T = T} (IsRecordsFault o) (ConsumesAtMost (records_size o + 1)) left left reads reads writes writes' (Err f)) (sym is) here

@@ -1,5 +1,6 @@
 //! What upgrades the records of a batch, one after the other.
-ghost use Rattle.std.specs.Prelude.{◌≡◌, ◌≢◌, ◌++◌, ◌*◌, ⊤, drop, take, OnOk};
+ghost use Rattle.std.specs.Prelude.{◌≡◌, ◌≢◌, ◌++◌, ◌*◌, ⊤, Some, drop, take, OnOk};
+ghost use Rattle.flp_report.specs.Layout.{bucket_bytes};
 ghost use Rattle.flp_report.specs.Shape.{part_words, words_start};
 ghost use Rattle.flp_report.specs.Record.{record_of, shape_of, own_start};
 ghost use Rattle.flp_upgrade.specs.Upgraded.{record_upgraded};
@@ -15,6 +16,15 @@ pub(crate) struct Upgrading {
     shape: Shape,
     bucket: u32,
     ghost one: { shape.version ≢ 2 },
+}
+
+/// Appends a nonce and its bucket.
+fn push_start(line: &mut Vec<u8>, nonce: &[u8], bucket: u32) -> Result<(), Memory>
+    ensures { OnOk result (line.new.items ≡ line.old.items ++ (nonce.now ++ bucket_bytes (Some bucket))) }
+{
+    line.extend_from_slice(nonce)?;
+    line.extend_from_slice(&bucket.to_le_bytes())?;
+    Ok(())
 }
 
 /// Appends the parts of all shares of a record.
@@ -58,8 +68,7 @@ impl Upgrading {
         requires { shape_of given.now ≡ shape_in self.now }
         ensures { OnOk result (line.new.items ≡ line.old.items ++ record_upgraded (bucket_in self.now) (record_of given.now)) }
     {
-        line.extend_from_slice(given.nonce())?;
-        line.extend_from_slice(&self.bucket.to_le_bytes())?;
+        push_start(line, given.nonce(), self.bucket)?;
         push_shares(line, given, self.shape.shares)?;
         push_own(line, given, self.shape.proofs)
     }

@@ -4,4 +4,4 @@ use Rattle.flp_upgrade.proofs.upgrading.push_shares.Goals as goal
 
 pub loop-share-preserved : goal.loop-share-preserved
 loop-share-preserved c =
-    shares-more _ _ _ _ _ _ c.loop-share.share c.loop-share.invariant c.share.ensures c.in_ok-extend_from_slice.ensures
+    shares-more _ _ _ _ _ _ c.loop-share.share c.loop-share.invariant c.share.ensures c.in_ok-extend_from_slice.ensures.items
