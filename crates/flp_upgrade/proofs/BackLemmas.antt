@@ -171,10 +171,10 @@ facts buckets bytes shape up =
     let in_front = head_fault_of bytes ∷ large_fault shape m ∷ claims_fault text m (drop text bytes) ∷ [] in
     let old = ended text (text + 16 * m) (drop text bytes) ∷ option_map ClaimsOrder (fall_in (pieces 16 m (drop text bytes))) ∷ [] in
     let records =
-        bucket_fault shape 0 (whole_of shape n (drop start bytes))
-        ∷ ended start (start + n * size) (drop start bytes)
-        ∷ met (nat_lt (start + n * size) (start + length (drop start bytes))) Trailing
-        ∷ [] in
+    bucket_fault shape 0 (whole_of shape n (drop start bytes))
+    ∷ ended start (start + n * size) (drop start bytes)
+    ∷ met (nat_lt (start + n * size) (start + length (drop start bytes))) Trailing
+    ∷ [] in
     let none = none-at all 1 up.no_fault in
     let front = none-at read 0 none in
     let claims = none-at in_front 2 front in
