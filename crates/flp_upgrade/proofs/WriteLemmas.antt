@@ -112,10 +112,10 @@ module _ {K : Type 0} {taken : K → Option (List ℕ)} {faults : K → ℕ} {sp
   -- what was written, told on with another answer of the same kind
   pub WritesTo-told : {T E U F : Type 0} {a b : K} (r : Result T E) (s : Result U F) (text more : List ℕ) → (IsOk r → IsOk s) → (IsErr r → IsErr s) → text ≡ more
       → WritesTo taken faults spare ready a b text r → WritesTo taken faults spare ready a b more s
-  WritesTo-told {a = a} {b = b} (Ok x) (Ok y) text more ok err same p =
-      subst (λ (t : List ℕ). WritesTo taken faults spare ready a b t (Ok y)) same (record { whole = p.whole; front = p.front; room = p.room; uses = p.uses })
-  WritesTo-told {a = a} {b = b} (Err x) (Err y) text more ok err same p =
-      subst (λ (t : List ℕ). WritesTo taken faults spare ready a b t (Err y)) same (record { whole = p.whole; front = p.front; room = p.room; uses = p.uses })
+  WritesTo-told {U = U} {F = F} {a = a} {b = b} (Ok x) (Ok y) text more ok err same p =
+      subst (λ (t : List ℕ). WritesTo {T = U} {E = F} taken faults spare ready a b t (Ok y)) same (record { whole = p.whole; front = p.front; room = p.room; uses = p.uses })
+  WritesTo-told {U = U} {F = F} {a = a} {b = b} (Err x) (Err y) text more ok err same p =
+      subst (λ (t : List ℕ). WritesTo {T = U} {E = F} taken faults spare ready a b t (Err y)) same (record { whole = p.whole; front = p.front; room = p.room; uses = p.uses })
   WritesTo-told (Ok x) (Err y) text more ok err same p = let is = ok refl in let no : ⊥ = cc in absurd no
   WritesTo-told (Err x) (Ok y) text more ok err same p = let is = err refl in let no : ⊥ = cc in absurd no
 
