@@ -1,9 +1,9 @@
 #!/usr/bin/env bash
-# Times `lengths`, outside the gate, on circuit texts that strangers could send, and prints a table (hostile.py tells more).
-# Give RT to name another command than `rt run --`, as the path of the built program: the peak of memory is then its own.
+# Times the program, outside the gate, on texts and files that strangers could send, and prints two tables (hostile.py tells more).
+# Give FLP the path of the built program: seconds and the peak of memory are then its own, and not also those of `rt run --`.
 set -eu
 top="$(cd "$(dirname "${BASH_SOURCE[0]}")/.." && pwd)"
-run="${RT:-rt run --}"
+run="${FLP:-rt run --}"
 cd "$top/crates/flp"
 # shellcheck disable=SC2086
 PYTHONDONTWRITEBYTECODE=1 python3 "$top/bench/hostile.py" $run

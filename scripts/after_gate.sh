@@ -21,7 +21,7 @@ python3 "$top/scripts/shard_demo.py" --reports $((10000 * percent))
 echo '## Loads'
 python3 "$top/scripts/load.py" --scale "$percent"
 echo '## Refused memory'
-"$top/scripts/fail_alloc.sh"
+python3 "$top/scripts/fail_alloc.py" --at-once 4
 echo '## Random inputs'
 room=$(mktemp -d)
 trap 'rm -r "$room"' EXIT

@@ -1,10 +1,11 @@
 #!/usr/bin/env python3
 """Checks the documents: dumps and words against the files that they show, the table of crates and the pictures against
-crates.txt, answers against the built program.
+crates.txt, the one line of the version, answers against the built program.
 
     check_docs.py [PROGRAM]         PROGRAM is crates/flp/out/flp where it is not given; where it is not built, the
                                     answers are skipped
 """
+import glob
 import os
 import re
 import struct
@@ -84,6 +85,14 @@ def check_table(text):
             faults.append(f"the table of crates, {layer}: {', '.join(sorted(differ))}")
 
 
+def check_version():
+    """The version stands in one line, at the head of the changes."""
+    names = [*glob.glob("*.md", root_dir=TOP), *glob.glob("docs/*.md", root_dir=TOP), *glob.glob("*/*/*.md", root_dir=TOP)]
+    found = [name for name in names for _ in re.findall(r"^Version \d[\d.]*\.", read(name), re.M)]
+    if found != ["CHANGELOG.md"] or not re.match(r"# Changes\n\nVersion \d", read("CHANGELOG.md")):
+        faults.append(f"the version stands in: {', '.join(found) or 'no document'}")
+
+
 def check_pictures():
     for name, drawn in draw.PICTURES.items():
         if read(f"docs/{name}.svg") != drawn():
@@ -116,6 +125,13 @@ def check_printed(program, text):
             faults.append(f"flp {words} of {name}: {ended.stdout.decode()}{ended.stderr.decode()}")
 
 
+def check_dealt(program, text):
+    """The dump of a share file of the small batch."""
+    for words, block in re.findall(r"What `flp (deal [^`]*)` writes of the count of 1 [^\n]*:\n\n```\n(.*?)```", text, re.S):
+        if answer(program, words.split(), content_of("crates/flp_cases/data/accepted.batch")).stdout != dumped(block):
+            faults.append(f"flp {words}")
+
+
 def check_first_screen(program, text):
     """The two commands at the head of the README, one behind the other, and what the second prints."""
     wanted = re.search(r"the second prints\n\n```\n(.*?)```", text, re.S).group(1)
@@ -123,6 +139,29 @@ def check_first_screen(program, text):
     batch = answer(program, words[0].split(), content_of("crates/flp_cases/data/histogram.job")).stdout
     if answer(program, words[1].split(), batch).stdout.decode() != wanted:
         faults.append("the first screen of README.md")
+
+
+def check_trials(program, readme, formats):
+    """What `trial` prints, in the README and in the formats."""
+    shown = r"^rt try -- (trial [^<]*) < \S*/([\w.]+)\n```\n\nprints[^\n]*\n\n```\n(.*?)```"
+    found = [(words, content_of(f"crates/flp_cases/data/{name}"), block)
+             for words, name, block in re.findall(shown, readme, re.S | re.M)]
+    shown = r"^Of `(use [^`]*;)`, with the seed (\d+) and ([\d,]+) reports[^\n]*:\n\n```\n(.*?)```"
+    found += [(f"trial --seed {seed} --reports {reports.replace(',', '')} --workers 2", circuit, block)
+              for circuit, seed, reports, block in re.findall(shown, formats, re.S | re.M)]
+    for words, circuit, block in found:
+        if answer(program, words.split(), circuit).stdout.decode() != block:
+            faults.append(f"flp {words}")
+    if len(found) != 2:
+        faults.append("a trial of README.md or docs/FORMATS.md is not found")
+
+
+def check_usage(program, formats):
+    """The line where the words name no command."""
+    [line] = re.findall(r"^\| 2 \|.*`(usage: [^`]*)` \|$", formats, re.M)
+    ended = answer(program, [], b"")
+    if (ended.returncode, ended.stderr.decode()) != (2, f"flp: {line}\n"):
+        faults.append("the line of status 2")
 
 
 def check_refusals(program, text):
@@ -150,13 +189,17 @@ def main():
     check_words(formats)
     check_table(read("docs/PROMISES.md"))
     check_pictures()
+    check_version()
     program = sys.argv[1] if len(sys.argv) > 1 else os.path.join(TOP, "crates", "flp", "out", "flp")
     if os.path.exists(program):
         check_refusals(program, circuits)
         check_lengths(program, formats + circuits)
         check_printed(program, formats)
+        check_dealt(program, formats)
         check_bodies(program, circuits)
         check_first_screen(program, read("README.md"))
+        check_trials(program, read("README.md"), formats)
+        check_usage(program, formats)
     else:
         print(f"skipped, since {program} is not built: what the program answers")
     print("\n".join(faults) or "the documents' examples are as they are shown")

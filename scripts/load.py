@@ -1,5 +1,6 @@
 #!/usr/bin/env python3
-"""Streams large batches through `flp verify` by pipes, and prints a table of seconds and peaks of memory.
+"""Streams large batches through `flp verify` by pipes, and prints a table of seconds, by the clock and of processors, and
+of peaks of memory.
 
     load.py [--scale PERCENT]
 
@@ -121,7 +122,8 @@ def run(program, given, promised, reports, workers=4, pauses=(0, 0), stop=None):
 
 
 def row(name, reports, ended, bytes_):
-    print(f"| {name} | {reports} | {ended.status} | {ended.seconds:.1f} | {ended.peak:.0f} | {bytes_} |", flush=True)
+    numbers = f"{ended.status} | {ended.seconds:.1f} | {ended.used:.2f} | {ended.peak:.0f} | {bytes_}"
+    print(f"| {name} | {reports} | {numbers} |", flush=True)
 
 
 def whole(program, name, given, reports, **how):
@@ -159,7 +161,7 @@ def main():
     vectors = [[int(place == k) for k in range(1024)] for place in places]
     wide = load(program, "use histogram length=1024 chunk=32;", [[place] for place in places], vectors)
     some = 200000
-    print("| load | reports | status | seconds | peak, MB | bytes of output |\n|---|---|---|---|---|---|")
+    print("| load | reports | status | seconds | of processors | peak, MB | bytes of output |\n|---|---|---|---|---|---|---|")
     whole(program, "counts", counts, int(10**7 * scale))
     whole(program, "one of 1,024 places", wide, int(10**5 * scale))
     whole(program, "counts, 1 worker", counts, some, workers=1)

@@ -337,10 +337,13 @@ class Batch:
         assert all(r.shares == shares and r.proofs == proofs for _, r in reports)
         self.circuit, self.reports, self.claims, self.shares, self.proofs = circuit, reports, claims, shares, proofs
 
-    def content(self):
-        text = self.circuit.text.encode()
-        head = b"FLPBATCH" + little([1, self.shares, self.proofs, len(text), len(self.claims), len(self.reports)], 4)
-        records = [nonce(number) + little(r.words, 8) for number, r in self.reports]
+    def content(self, buckets=None, bucket=0):
+        """The bytes in version 1; with a number of buckets in version 2, where all reports are of one bucket."""
+        text, version = self.circuit.text.encode(), 1 if buckets is None else 2
+        counts = [len(text), len(self.claims), len(self.reports)] + ([] if buckets is None else [buckets])
+        head = b"FLPBATCH" + little([version, self.shares, self.proofs] + counts, 4)
+        own = b"" if buckets is None else little([bucket], 4)
+        records = [nonce(number) + own + little(r.words, 8) for number, r in self.reports]
         return head + text + b"".join(nonce(c) for c in self.claims) + b"".join(records)
 
     def parts(self, words, proof):
@@ -595,6 +598,7 @@ def files():
     for name, (batch, _) in BATCHES.items():
         yield f"{name}.batch", batch.content()
     yield "truncated.batch", BATCHES["accepted"][0].content()[:-1]
+    yield "buckets.batch", BATCHES["accepted"][0].content(buckets=2, bucket=1)
     for name, (jobs, *_) in [*JOBS.items(), *REFUSED.items()]:
         yield f"{name}.job", jobs.content()
     cases = [HEADING, *circuit_cases(), *batch_cases(), *job_cases()]

@@ -20,9 +20,10 @@ def program():
 
 @dataclasses.dataclass(frozen=True)
 class Run:
-    """How a command ended: seconds by the clock, the peak of memory in MB, and its exit status."""
+    """How a command ended: seconds by the clock and of processors, the peak of memory in MB, and its exit status."""
 
     seconds: float
+    used: float
     peak: float
     status: int
 
@@ -39,11 +40,13 @@ def peak_of(pid):
 
 def watch(process):
     """Waits for a process and looks at its peak a hundred times a second, which misses what grows at its very end."""
-    start, peak = time.monotonic(), 0
-    while process.poll() is None:
+    start, peak, ended = time.monotonic(), 0, 0
+    while not ended:
         peak = max(peak, peak_of(process.pid))
         time.sleep(0.01)
-    return Run(time.monotonic() - start, peak, process.returncode)
+        ended, status, used = os.wait4(process.pid, os.WNOHANG)
+    process.returncode = os.waitstatus_to_exitcode(status)
+    return Run(time.monotonic() - start, used.ru_utime + used.ru_stime, peak, process.returncode)
 
 
 def run(command, given, said):

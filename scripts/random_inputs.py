@@ -56,6 +56,20 @@ def with_more(drawn, batch):
     return head + batch[32:start] + b"".join(olds) + b"".join(records + more)
 
 
+def many(drawn, batch):
+    """A batch of up to three segments of its records under nonces that count up, whole, cut or with bytes behind it."""
+    length, claims, reports = struct.unpack_from("<3I", batch, 20)
+    start = 32 + length + 16 * claims
+    if not reports or (len(batch) - start) % reports:
+        return batch
+    size, count = (len(batch) - start) // reports, drawn.randrange(900, 2100)
+    bodies = [batch[start + k * size + 16 : start + (k + 1) * size] for k in range(reports)]
+    nonces = [place if drawn.randrange(200) else drawn.randrange(place + 1) for place in range(count)]
+    records = [nonce.to_bytes(16, "big") + bodies[nonce % reports] for nonce in nonces]
+    made = batch[:28] + struct.pack("<I", count) + batch[32:start] + b"".join(records)
+    return made[: drawn.randrange(start, len(made) + 1)] if drawn.randrange(3) else made + bytes(drawn.randrange(2))
+
+
 def index(drawn, names, depth):
     kind = drawn.randrange(6)
     if kind < 3 or depth == 0:
@@ -130,3 +144,16 @@ def measurement(drawn, text):
     most = 2 ** given["bits"] - 1 if "bits" in given else given.get("max", 1)
     numbers = [drawn.randint(0, most) for _ in range(given.get("length", 1))]
     return numbers, numbers
+
+
+def vector_of(text, number):
+    """What the measurement of this number adds to the aggregate in a batch of trials of a standard circuit."""
+    given = {key: int(value) for key, value in re.findall(r"(\w+)=(\d+)", text)}
+    length = given.get("length", 1)
+    if "weight" in given:
+        ones = number % (given["weight"] + 1)
+        return [int((place + number) % length < ones) for place in range(length)]
+    if "histogram" in text:
+        return [int(place == number % length) for place in range(length)]
+    most = 2 ** given["bits"] - 1 if "bits" in given else given.get("max", 1)
+    return [(number + place) % (most + 1) for place in range(length)]

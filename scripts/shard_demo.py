@@ -5,7 +5,8 @@
                   [--dask | --scheduler ADDRESS] [--keep FOLDER]
 
 The batch has N reports (1,000,000) of which most are honest, some false, some malformed, some repeat an earlier nonce
-and some an old claim. Each step is printed with its seconds and, for runs of `flp verify`, the largest peak of memory.
+and some an old claim. Each step is printed with its seconds by the clock and of processors and, for runs of `flp verify`,
+the largest peak of memory.
 Parts are verified J at a time (4), by W workers each (1): by this program alone, on the processes of a cluster that
 Dask starts here (--dask), or on those of a scheduler that runs (--scheduler), which must see the same folder. FLP names
 the program where it is not crates/flp/out/flp. Dask is Debian's python3-distributed: run it by /usr/bin/python3.
@@ -92,9 +93,9 @@ def compare(folder, parts):
 
 def timed(name, work):
     """Does some work and prints its seconds."""
-    start = time.monotonic()
+    start, used = time.monotonic(), time.process_time()
     result = work()
-    print(f"| {name} | {time.monotonic() - start:.2f} | |", flush=True)
+    print(f"| {name} | {time.monotonic() - start:.2f} | {time.process_time() - used:.2f} | |", flush=True)
     return result
 
 
@@ -109,18 +110,17 @@ def split(folder, parts):
 def run(given, folder):
     drawn = random.Random(given.seed)
     whole, text = f"{folder}/whole.batch", f"{folder}/whole.text"
-    print("| step | seconds | peak of memory, MB |\n|---|---|---|")
+    print("| step | seconds | of processors | peak of memory, MB |\n|---|---|---|---|")
     timed("make the batch", lambda: write_batch(whole, given.program, given.circuit, given.reports, drawn))
     alone = measure.run([given.program, "verify", "--workers", str(given.workers), "--claims"], whole, text)
     assert alone.status == 0, f"the whole: status {alone.status}"
-    print(f"| verify the whole | {alone.seconds:.2f} | {alone.peak:.0f} |")
+    print(f"| verify the whole | {alone.seconds:.2f} | {alone.used:.2f} | {alone.peak:.0f} |")
     timed(f"split it into {given.parts}", lambda: split(folder, given.parts))
     start = time.monotonic()
     ended = verify_all(given, folder)
-    seconds = time.monotonic() - start
+    seconds, used, peak = time.monotonic() - start, sum(part.used for part in ended), max(part.peak for part in ended)
     assert all(part.status == 0 for part in ended), "a part is not verified"
-    print(f"| verify the parts, {given.at_once} at once | {seconds:.2f} | {max(part.peak for part in ended):.0f} |")
-    print(f"| the same, summed up over the parts | {sum(part.seconds for part in ended):.2f} | |")
+    print(f"| verify the parts, {given.at_once} at once | {seconds:.2f} | {used:.2f} | {peak:.0f} |")
     ending = timed("add them up and compare", lambda: compare(folder, given.parts))
     print(f"\nThe parts have the verdicts and the claims of the whole, the count {ending.count}, and the aggregate:")
     print(*ending.aggregate)

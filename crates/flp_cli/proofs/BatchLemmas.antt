@@ -104,7 +104,7 @@ text-status (Batch (file.Bucket place bucket)) is = omega arith
 text-status (Circuit f) is = tt
 
 -- a fault with status 4 or 6 is of the input
-input-status : (fault : EngineFault) → (engine_status fault ≡ 4) ⊎ (engine_status fault ≡ 6) → IsOfInput fault
+pub input-status : (fault : EngineFault) → (engine_status fault ≡ 4) ⊎ (engine_status fault ≡ 6) → IsOfInput fault
 input-status Memory is = ⊎_elim (λ four. omega arith) (λ six. omega arith) is
 input-status Read is = tt
 input-status Write is = ⊎_elim (λ four. omega arith) (λ six. omega arith) is
@@ -115,7 +115,7 @@ input-status (Circuit f) is = tt
 abbrev IfFileTold : Option ℕ → Stream → EngineFault → Type 0
 IfFileTold party input fault = IfFile fault (λ f. IfSome input.old (λ bytes. IsFault (batches party) bytes f))
 
-batch-refused : (party : Option ℕ) (statuses : List ℕ) (lines : Setting → List (List ℕ) → List ℕ) (replies : Setting → List (List ℕ) → Reply) (input : Stream) (fault : EngineFault)
+pub batch-refused : (party : Option ℕ) (statuses : List ℕ) (lines : Setting → List (List ℕ) → List ℕ) (replies : Setting → List (List ℕ) → Reply) (input : Stream) (fault : EngineFault)
     → IfFileTold party input fault → IsRefusalStatus (engine_status fault) → RefusesInput (batch_duty party statuses lines replies) input (File fault)
 batch-refused party statuses lines replies input Memory told is = not_refused 3 (λ six. omega arith) (λ seven. omega arith) (λ eight. omega arith) is
 batch-refused party statuses lines replies input Read told is = not_refused 4 (λ six. omega arith) (λ seven. omega arith) (λ eight. omega arith) is

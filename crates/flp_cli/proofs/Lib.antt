@@ -7,6 +7,7 @@ pub mod RunLemmas
 -- the end of each command
 pub mod BatchLemmas
 pub mod TrialLemmas
+pub mod PartyLemmas
 pub mod UpgradeLemmas
 pub mod WholeLemmas
 -- the laws of what is written

@@ -30,7 +30,7 @@ use Rattle.flp_verify.specs.Text.{verdict_lines}
 use Rattle.flp_prep.specs.Text.{prepared_lines}
 use Rattle.flp_explain.specs.Text.{explained_lines}
 use Rattle.flp_words.specs.declared.command.Command.{Command}
-use Rattle.flp_words.specs.declared.command.Command.TheVariants.{Verify, Prove, Lengths, Prep, Explain, Hide, Trial, Upgrade}
+use Rattle.flp_words.specs.declared.command.Command.TheVariants.{Verify, Prove, Lengths, Prep, Explain, Hide, Trial, Deal, Upgrade}
 use Rattle.flp_io.specs.Reads.{ConsumesAtMost}
 use Rattle.flp_lengths.specs.Reading.{judged_text}
 use Rattle.flp_lengths.specs.Reply.{WritesLengths, StopsInLengths, StopsBy, IsFaultOfText}
@@ -49,6 +49,7 @@ use Rattle.flp_cli.specs.Stream.{Stream, Says}
 use Rattle.flp_cli.proofs.StatusLemmas.{file-status, whole-text}
 use Rattle.flp_cli.proofs.BatchLemmas.{OneSetting, NeverBoth, OneFault, batch-one, lines-one, batch-unread}
 use Rattle.flp_cli.proofs.TrialLemmas.{trial-one}
+use Rattle.flp_cli.proofs.PartyLemmas.{deal-one, deal-unread}
 use Rattle.flp_cli.proofs.UpgradeLemmas.{upgrade-one, upgrade-unread}
 use Rattle.flp_cli.proofs.RunLemmas.{not_refused, end-done, end-failed, run-memory, still, within-none}
 
@@ -223,6 +224,7 @@ one-reply setting never fault jobs refusal text trial one_trial new one_new woul
 one-reply setting never fault jobs refusal text trial one_trial new one_new would (Explain joint) = lines-one setting never fault None (explained_lines joint)
 one-reply setting never fault jobs refusal text trial one_trial new one_new would Hide = jobs-one jobs refusal hide_rules hidden_text
 one-reply setting never fault jobs refusal text trial one_trial new one_new would (Trial workers seed reports) = trial-one trial one_trial seed reports
+one-reply setting never fault jobs refusal text trial one_trial new one_new would (Deal party) = deal-one setting never fault party
 one-reply setting never fault jobs refusal text trial one_trial new one_new would (Upgrade buckets bucket) = upgrade-one new one_new buckets bucket
 
 -- ---- no memory for the words
@@ -256,6 +258,7 @@ unread would (Explain joint) left taken reads writes errors line =
 unread would Hide left taken reads writes errors line = jobs-unread hide_rules hidden_text left taken reads writes errors line
 unread would (Trial workers seed reports) left taken reads writes errors line =
     text-unread kind.Batch (6 ∷ 7 ∷ []) (trial_reply seed reports) left taken reads writes errors line
+unread would (Deal party) left taken reads writes errors line = deal-unread party left taken reads writes errors line
 unread would (Upgrade buckets bucket) left taken reads writes errors line = upgrade-unread buckets bucket left taken reads writes errors line
 
 -- the run of a command that has another name

@@ -14,6 +14,7 @@ use Rattle.flp_verdict.specs.Release.{Answers}
 use Rattle.flp_verify.specs.Text.{verdict_lines, released_by, refused_by}
 use Rattle.flp_prep.specs.Text.{prepared_lines}
 use Rattle.flp_explain.specs.Text.{explained_lines}
+use Rattle.flp_party.specs.Reply.{file_of, StopsShare, SettlesShare}
 use Rattle.flp_batch.specs.JobSetting.{JobSetting}
 use Rattle.flp_jobs.specs.declared.rules.Rules.{Rules}
 use Rattle.flp_jobs.specs.Record.{batch_text}
@@ -32,7 +33,7 @@ use Rattle.flp_upgrade.specs.Reply as new
 use Rattle.flp_lines.specs.declared.fault.FileKind.{FileKind}
 use Rattle.flp_lines.specs.declared.fault.FileKind.TheVariants as kind
 use Rattle.flp_words.specs.declared.command.Command.{Command}
-use Rattle.flp_words.specs.declared.command.Command.TheVariants.{Verify, Prove, Lengths, Prep, Explain, Hide, Trial, Upgrade}
+use Rattle.flp_words.specs.declared.command.Command.TheVariants.{Verify, Prove, Lengths, Prep, Explain, Hide, Trial, Deal, Upgrade}
 use Rattle.flp_cli.specs.Runs.{Reply, Done, Withheld, Refused, Duty}
 use Rattle.flp_cli.specs.Stream.{Stream}
 
@@ -159,6 +160,25 @@ trial_reply seed reports bytes (Refused (Place place fault)) = ⊥
 abbrev pub trial_duty : (seed reports : ℕ) → Duty
 trial_duty seed reports = text_duty kind.Batch (6 ∷ 7 ∷ []) (trial_reply seed reports)
 
+-- ---- `deal`, whose text has the header of the batch in it
+
+-- nothing was written, or a prefix of the share file of the records that were read whole; nothing of a file whose circuit is
+-- refused; and where the input failed or is no batch, the share file of all segments in front of that stands
+pub record WritesShareFront (party status : ℕ) (input output : Stream) : Type 0 where
+  pub front : StopsShare party input.old input.new output.old output.new
+  pub kept : status ≡ 7 → Keeps output.old output.new
+  pub settled : (status ≡ 4) ⊎ (status ≡ 6) → SettlesShare party input.old input.new output.old output.new
+
+-- a batch is answered by the party's share file of it
+abbrev pub deal_duty : (party : ℕ) → Duty
+deal_duty party = record {
+  kind = kind.Batch;
+  statuses = 6 ∷ 7 ∷ [];
+  replies = λ bytes. batch_reply (Some party) (lines_reply (file_of party bytes)) bytes;
+  early = WritesShareFront party;
+  takes = TakesFew (batches (Some party));
+}
+
 -- ---- `upgrade`, whose text is a batch
 
 -- bytes can be written as a batch of so many buckets, and this is the batch; or their first fault, which is for what is written
@@ -193,4 +213,5 @@ duty_of would (Prep party) = lines_duty (Some party) (prepared_lines party)
 duty_of would (Explain joint) = lines_duty None (explained_lines joint)
 duty_of would Hide = jobs_duty hide_rules hidden_text
 duty_of would (Trial workers seed reports) = trial_duty seed reports
+duty_of would (Deal party) = deal_duty party
 duty_of would (Upgrade buckets bucket) = upgrade_duty buckets bucket

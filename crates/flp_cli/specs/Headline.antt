@@ -15,7 +15,7 @@ use Rattle.flp_explain.specs.Told.{KeepsTold}
 use Rattle.flp_jobs.specs.Reply.{IsProvable}
 use Rattle.flp_jobs.specs.Laws.{ReadsBack, IsHonestlyMade}
 use Rattle.flp_reseed.specs.Laws.{SeedsMatch}
-use Rattle.flp_trial.specs.Places.{PlacesAreFound, StandardIsValid}
+use Rattle.flp_trial.specs.Places.{TrialsAreFound}
 use Rattle.flp_upgrade.specs.Laws.{ReadsAsUpgraded}
 
 -- what holds of the verdicts on records, and of their aggregate, where they stand in a file with this setting and a
@@ -49,8 +49,7 @@ pub record Headline : Type 0 where
   pub jobs : (bytes : List ℕ) (setting : JobSetting) → IsProvable bytes setting → JobLaws bytes setting
   -- the seeds that are printed of a job file hide which measurement stands in a place
   pub seeds : SeedsMatch
-  -- what is found at each place of a trial, and that what a standard circuit's place encodes is valid
-  pub places : PlacesAreFound
-  pub standard : StandardIsValid
+  -- what is found at each place of a trial, and how many of a standard circuit's have each verdict
+  pub trials : TrialsAreFound
   -- what `upgrade` writes is a batch of version 2 with the very same reports, each in the one bucket
   pub upgraded : ReadsAsUpgraded

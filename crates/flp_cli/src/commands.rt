@@ -14,6 +14,7 @@ use flp_io::{Sink, Source};
 use flp_jobs::{ProveFault, prove};
 use flp_lengths::lengths;
 use flp_lines::FileKind;
+use flp_party::deal;
 use flp_policy::Policy;
 use flp_pool::Gate;
 use flp_prep::prep;
@@ -68,6 +69,7 @@ fn kind_of(command: Command) -> FileKind
         Command::Explain { .. } => FileKind::Batch,
         Command::Hide => FileKind::Job,
         Command::Trial { .. } => FileKind::Batch,
+        Command::Deal(_) => FileKind::Batch,
         Command::Upgrade { .. } => FileKind::Batch,
     }
 }
@@ -116,6 +118,7 @@ fn perform<R: Threads + Sync, S: Source, K: Sink, G: Gate>(
             seed,
             reports,
         } => by_file(all_done(trial(rt, alloc, input, output, seed, reports, workers, gate))),
+        Command::Deal(party) => by_file(all_done(deal(alloc, party, input, output))),
         Command::Upgrade { buckets, bucket } => {
             by_file(all_done(upgrade(alloc, buckets, bucket, input, output)))
         }

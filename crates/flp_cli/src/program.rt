@@ -34,6 +34,8 @@ use std::thread::Threads;
 /// and each proof the seeds with which that measurement's proof has the verifier of the first's. `trial --seed X --reports N
 /// --workers W`, X to 4,294,967,295, N to 1,000,000 and W from 1 to 16, reads a circuit text as `lengths` does, makes a batch
 /// of N reports of it from the seed, has W threads verify it, and writes how many have which verdict, and the aggregate.
+/// `deal --party K`, K from 0 to 15, reads a batch and writes the share file of party K: of each report share K alone, and
+/// what every party knows.
 /// `upgrade --buckets B --bucket K`, B from 1 to 256 and K below B, reads a batch of version 1 and writes the batch of
 /// version 2 with B buckets and the same reports, all in bucket K.
 /// For each status but 0 and 9 one line goes to `errors`, whose faults change no answer.
@@ -53,9 +55,10 @@ use std::thread::Threads;
 /// Which bytes are done with which text, and which are refused, is `duty_of` in
 /// `specs/Commands.antt`. After 3, 4, 5 and 6 the output of `verify` has taken a prefix of the lines of
 /// the reports that were read whole, or, where its own fault came later, of the text; that of `prep`
-/// and of `explain` a prefix of the lines of the reports that were read whole. After 4 and 6 the lines
-/// of all segments in front of the one that could not be read are among them. That of `upgrade` has taken a prefix of the
-/// head, the old claims and the reports that were read whole. After 5 the output of
+/// and of `explain` a prefix of the lines of the reports that were read whole, and that of `deal` a prefix
+/// of the share file of these reports. After 4 and 6 the lines, or what is written of their reports, of all segments in front
+/// of the one that could not be read are among them. That of `upgrade` has taken a prefix of the head, the old claims and
+/// the reports that were read whole. After 5 the output of
 /// `lengths`, of `trial` and of `hide` has taken a prefix of its lines and that of `prove` a prefix of the batch. The policies,
 /// fewer than 4,294,967,295, are told the verdicts by `verify` alone, and all are dropped within the call.
 pub fn run<R: Threads + Sync, S: Source, K: Sink, E: Sink, G: Gate>(

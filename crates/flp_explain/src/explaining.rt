@@ -2,6 +2,7 @@
 ghost use Rattle.std.specs.Prelude.{◌≡◌, ◌++◌, ◌<◌, [], length, vec_len, IfOk, IfSome, OnOk};
 ghost use Rattle.std.specs.List.{flat_map};
 ghost use Rattle.std.proofs.Props.{props};
+ghost use Rattle.flp_plan.specs.Sizes.{sizes_of};
 ghost use Rattle.flp_report.specs.Shape.{words_of};
 ghost use Rattle.flp_report.specs.Record.{record_of, nonce_in, words_in};
 ghost use Rattle.flp_worker.specs.Parts.{proof_numbers, unshared_encoding};
@@ -21,14 +22,13 @@ use flp_policy::Verdict;
 use flp_report::{Record, Shape};
 use flp_syntax::Params;
 use flp_verdict::push_line;
-use flp_weak::{Weak, weak_word};
+use flp_weak::{Weak, WeakRoom};
 use flp_worker::Words;
 use std::alloc::{AllocError, Global};
 
 /// Explains records of one shape, one after another.
 #[derive(Drop)]
 pub(crate) struct Explaining<'a> {
-    alloc: Global,
     /// Whether what joint words tell is asked for.
     joint: bool,
     loaded: &'a Loaded,
@@ -39,56 +39,62 @@ pub(crate) struct Explaining<'a> {
     encoding: Vec<Fe>,
     /// An unshared proof.
     proof: Vec<Fe>,
+    /// Room for its weak word.
+    room: WeakRoom,
     ghost fits: { IsShapeOf loaded.now.plan.circuit shape },
     ghost standard: { IfSome loaded.now.params (IsStandard shape.meas) } by { Prim.hlevel props },
     ghost for_words: { vec_len words ≡ words_of shape },
     ghost for_encoding: { vec_len encoding ≡ shape.meas },
     ghost for_proof: { vec_len proof ≡ shape.proof },
+    ghost for_weak: { room ≡ sizes_of loaded.now.plan },
 }
 
 /// The weak word of a proof of a record with these words, whose unshared encoding is `encoding`.
 ///
-/// `room` has a place for each word of a proof, and holds anything afterwards.
+/// `unshared` has a place for each word of a proof, and holds anything afterwards.
 fn find_weak(
-    alloc: Global,
     plan: &Plan,
     words: &Words,
     proof: u32,
     encoding: &[Fe],
-    room: &mut [Fe],
-) -> Result<Option<Weak>, Memory>
+    room: &mut WeakRoom,
+    unshared: &mut [Fe],
+) -> Option<Weak>
+    requires made { room.old ≡ sizes_of plan.now }
     requires fits { IsShapeOf plan.now.circuit (shape_held words.now) }
     requires proof { proof < (shape_held words.now).proofs }
     requires encoding { encoding.now ≡ unshared_encoding (shape_held words.now) (words_held words.now) }
-    requires room { length room.old ≡ (shape_held words.now).proof }
-    ensures { IfOk result (λ found. found ≡ weak_among plan.now.circuit (shape_held words.now) (words_held words.now) proof) }
+    requires unshared { length unshared.old ≡ (shape_held words.now).proof }
+    ensures found { result ≡ weak_among plan.now.circuit (shape_held words.now) (words_held words.now) proof }
+    ensures again { room.new ≡ room.old }
 {
-    words.write_proof(proof, room);
-    let found = weak_word(alloc, plan, encoding, words.joint(proof), room)?;
-    Ok(found)
+    words.write_proof(proof, unshared);
+    room.weak_word(plan, encoding, words.joint(proof), unshared)
 }
 
 /// Appends a line for each proof of a record with these words, whose unshared encoding is `encoding`.
 ///
-/// `room` has a place for each word of a proof, and holds anything afterwards.
+/// `unshared` has a place for each word of a proof, and holds anything afterwards.
 fn push_proof_lines(
-    alloc: Global,
     plan: &Plan,
     words: &Words,
     given: &Record,
     encoding: &[Fe],
-    room: &mut [Fe],
+    room: &mut WeakRoom,
+    unshared: &mut [Fe],
     line: &mut Vec<u8>,
 ) -> Result<(), Memory>
+    requires made { room.old ≡ sizes_of plan.now }
     requires fits { IsShapeOf plan.now.circuit (shape_held words.now) }
     requires words { words_held words.now ≡ words_in (shape_held words.now) (record_of given.now) }
     requires encoding { encoding.now ≡ unshared_encoding (shape_held words.now) (words_held words.now) }
-    requires room { length room.old ≡ (shape_held words.now).proof }
-    ensures { OnOk result (line.new.items ≡ line.old.items
+    requires unshared { length unshared.old ≡ (shape_held words.now).proof }
+    ensures lines { OnOk result (line.new.items ≡ line.old.items
         ++ flat_map (proof_line plan.now.circuit (shape_held words.now) (record_of given.now)) (proof_numbers (shape_held words.now))) }
+    ensures again { room.new ≡ room.old }
 {
     for proof in 0..words.proofs() {
-        let found = find_weak(alloc, plan, words, proof, encoding, room)?;
+        let found = find_weak(plan, words, proof, encoding, room, unshared);
         push_proof_line(line, given.nonce(), proof, found)?;
     }
     Ok(())
@@ -130,13 +136,13 @@ impl<'a> Explaining<'a> {
             ≡ words_by joint (record { params = loaded.now.params; circuit = loaded.now.plan.circuit; shape = shape.now; claims = [] })) }
     {
         Ok(Explaining {
-            alloc,
             joint,
             loaded,
             shape: *shape,
             words: vec![in alloc; Fe::ZERO; shape.words() as usize]?,
             encoding: vec![in alloc; Fe::ZERO; shape.meas as usize]?,
             proof: vec![in alloc; Fe::ZERO; shape.proof as usize]?,
+            room: WeakRoom::new(alloc, &loaded.plan)?,
         })
     }
 }
@@ -161,11 +167,11 @@ impl<'a> Judge for Explaining<'a> {
         let words = Words::new(&self.shape, &self.words);
         words.write_encoding(&mut self.encoding);
         push_proof_lines(
-            self.alloc,
             &self.loaded.plan,
             &words,
             given,
             &self.encoding,
+            &mut self.room,
             &mut self.proof,
             line,
         )?;

@@ -66,7 +66,7 @@ first-passes test zero some here = absurd (omega arith)
 first-passes test (suc count) some here = rw here refl
 
 -- the only proof's is that of the record
-inside-one : (circuit : Program) (ws : List ℕ) (found : Option ℕ) → gadget_inside circuit (trial_shape circuit) ws 0 ≡ found
+pub inside-one : (circuit : Program) (ws : List ℕ) (found : Option ℕ) → gadget_inside circuit (trial_shape circuit) ws 0 ≡ found
     → first_inside circuit (trial_shape circuit) ws ≡ first_named 0 (found ∷ [])
 inside-one circuit ws found is = ap (λ (o : Option ℕ). first_named 0 (o ∷ [])) is
 
@@ -90,7 +90,7 @@ inside-by circuit bytes ws gadget read good inside =
 -- ---- words of a record
 
 -- words of the field fit 8 bytes, and so does p
-below-words : (ws : List ℕ) → AreWords ws → All (λ w. w < 2 ^ 64) ws
+pub below-words : (ws : List ℕ) → AreWords ws → All (λ w. w < 2 ^ 64) ws
 below-words ws are = All-weaker IsWord (λ w. w < 2 ^ 64) (λ (w : ℕ) (word : w < modulus). omega arith) ws are
 
 -- a first word that is none is bad
@@ -123,13 +123,13 @@ module _ (params : Option Params) (circuit : Program) (is : IsCircuitOf params c
   words-behind_seeds : AreWords (behind_seeds lengths taken)
   words-behind_seeds = All-drop IsWord lengths.prove (behind_joint lengths taken) (All-drop IsWord lengths.joint taken words-taken)
 
-  words-honest : AreWords honest
+  pub words-honest : AreWords honest
   words-honest =
       All-append IsWord (shares_of 2 (unshared_words circuit x taken) (share_taken lengths taken)) (joint_taken lengths taken ++ query_taken lengths taken)
       (words-shares_of 2 (unshared_words circuit x taken) (share_taken lengths taken) (All-take IsWord (part_of lengths) (behind_seeds lengths taken) words-behind_seeds))
       (All-append IsWord (joint_taken lengths taken) (query_taken lengths taken) (All-take IsWord lengths.joint taken words-taken) (All-drop IsWord (part_of lengths) (behind_seeds lengths taken) words-behind_seeds))
 
-  long : length honest ≡ words_of shape
+  pub long : length honest ≡ words_of shape
   long = length-honest params circuit is bounded seed place
 
   -- the words of a record of so many words are read from its bytes
@@ -139,7 +139,7 @@ module _ (params : Option Params) (circuit : Program) (is : IsCircuitOf params c
       ∙ (ap (λ (n : ℕ). words n (word_bytes ws)) (sym size) ∙ words-word_bytes ws fits)
 
   -- what a word-by-word change makes of them
-  read-changed : (ws : List ℕ) → trial_words params circuit seed place ≡ ws → length ws ≡ words_of shape → All (λ w. w < 2 ^ 64) ws
+  pub read-changed : (ws : List ℕ) → trial_words params circuit seed place ≡ ws → length ws ≡ words_of shape → All (λ w. w < 2 ^ 64) ws
       → words_in shape (trial_record params circuit seed place) ≡ ws
   read-changed ws same size fits = ap (λ (l : List ℕ). words_in shape (trial_nonce seed place ++ word_bytes l)) same ∙ read-back ws size fits
 
@@ -188,7 +188,7 @@ module _ (params : Option Params) (circuit : Program) (is : IsCircuitOf params c
   good-honest = none-from_words 0 honest words-honest
 
   -- a query word is a power of 7
-  query-word : (k : ℕ) → k < lengths.query
+  pub query-word : (k : ℕ) → k < lengths.query
       → slice_index (query_taken lengths taken) k ≡ sequence_word seed (place * taken_by_place lengths + (lengths.joint + (lengths.prove + (part_of lengths + k))))
   query-word k below =
       get_or-drop (part_of lengths) (behind_seeds lengths taken) k 0

@@ -14,5 +14,14 @@ mod NonceLemmas
 mod FoundLemmas
 -- places where nothing is changed
 mod HonestPlaces
+-- a proof of which the last word is raised
+mod RaisedLemmas
+mod RaisedSums
+-- places where the proof is changed
+mod RaisedPlaces
+-- no answer enters the calls of a standard circuit
+mod CallLemmas
+-- verdicts that go by the place modulo 8
+mod EighthLemmas
 -- what is found at each place
 mod PlaceLemmas

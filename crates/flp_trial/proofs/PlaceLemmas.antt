@@ -1,5 +1,5 @@
 -- What is found at each place of a circuit's trial.
-use Rattle.std.proofs.Common.{ℕ, ◌≡◌, ◌≢◌, ◌+◌, ◌*◌, ◌%◌, ◌<◌, ◌≤◌, List, [], length, Option, Some, None, refl, sym, ap, subst, ◌∙◌, arith}
+use Rattle.std.proofs.Common.{ℕ, zero, suc, ◌≡◌, ◌≢◌, ◌+◌, ◌*◌, ◌%◌, ◌<◌, ◌≤◌, List, [], length, Option, Some, None, refl, sym, ap, subst, ◌∙◌, arith}
 use Rattle.flp_syntax.specs.declared.syntax.Params.{Params}
 use Rattle.flp_syntax.specs.Tree.{Program}
 use Rattle.flp_meaning.specs.Circuit.{IsValid}
@@ -9,6 +9,7 @@ use Rattle.flp_circuits.specs.Encoding.{encoding_of}
 use Rattle.flp_circuits.specs.Laws.{EncodingsAreValid}
 use Rattle.flp_plan.specs.Counted.{counted_lengths}
 use Rattle.flp_load.specs.Laws.{LoadedIsBounded}
+use Rattle.flp_report.specs.declared.shape.Shape.{Shape}
 use Rattle.flp_report.specs.Shape.{bytes_of}
 use Rattle.flp_report.specs.Record.{words_in}
 use Rattle.flp_report.specs.Words.{bad_word_in}
@@ -16,10 +17,11 @@ use Rattle.flp_policy.specs.declared.verdict.Verdict.{Verdict}
 use Rattle.flp_policy.specs.declared.verdict.Verdict.TheVariants.{Accepted, Rejected, InDomain, Malformed, Replayed}
 use Rattle.flp_worker.specs.Parts.{query_words}
 use Rattle.flp_worker.specs.Verdict.{verdict_of}
+use Rattle.flp_verdict.specs.Verdicts.{verdicts_of}
 use Rattle.flp_verdict.specs.Laws.{report_at, JudgesOnce, AcceptsHonest, IsHonest, IsHonestVerdict}
 use Rattle.flp_jobs.specs.Setting.{IsCircuitOf}
 use Rattle.flp_jobs.proofs.SettingLemmas.{circuit-of}
-use Rattle.flp_generator.specs.declared.change.Change.TheVariants.{Nothing, Point, Word, Nonce}
+use Rattle.flp_generator.specs.declared.change.Change.TheVariants.{Nothing, Proof, Point, Word, Nonce}
 use Rattle.flp_generator.specs.Sequence.{words_taken, joint_taken, query_taken}
 use Rattle.flp_generator.specs.Input.{measurement, trial_encoding}
 use Rattle.flp_generator.specs.Change.{change_at}
@@ -27,11 +29,14 @@ use Rattle.flp_generator.specs.Place.{honest_words, trial_record}
 use Rattle.flp_generator.specs.Batch.{trial_shape, trial_records, too_large}
 use Rattle.flp_generator.specs.Laws.{WordsStayOut}
 use Rattle.flp_generator.proofs.InputLemmas.{measured}
-use Rattle.flp_trial.specs.Places.{IsTried, IsValidAt, trial_verdict, FindsAt, StandardIsValid}
+use Rattle.flp_trial.specs.Places.{IsTried, IsValidAt, CallsStand, trial_verdict, FindsAt, PlacesAreFound, StandardIsValid, StandardCallsStand, EighthsAreFound}
 use Rattle.flp_trial.proofs.SizeLemmas.{none-mapped, small-batch}
 use Rattle.flp_trial.proofs.NonceLemmas.{change-at, nothing-first, length-records, record-at, replayed, not_replayed, own-verdict}
 use Rattle.flp_trial.proofs.FoundLemmas.{found-word, found-point, read-honest, good-honest, points-outside}
 use Rattle.flp_trial.proofs.HonestPlaces.{is_honest, kept-query}
+use Rattle.flp_trial.proofs.RaisedPlaces.{found-proof}
+use Rattle.flp_trial.proofs.CallLemmas.{standard_calls}
+use Rattle.flp_trial.proofs.EighthLemmas.{verdict_by_eighth, counts-eighths}
 
 -- ---- honest places
 
@@ -90,6 +95,7 @@ module _ (text : List ℕ) (params : Option Params) (circuit : Program) (seed re
   pub finds : FindsAt params circuit seed reports place
   finds = record {
     honest = λ (first : place % 8 < 4) valid. accepted (change-at place (place % 8) refl ∙ nothing-first (place % 8) first) valid;
+    proof = λ (r : place % 8 ≡ 4) stand. own (λ other. let never : Proof ≡ Nonce = sym (change-at place 4 r) ∙ other in cc) ∙ found-proof params circuit is bounded seed place (change-at place 4 r) stand out reports below tried.small_seed size;
     point = λ (r : place % 8 ≡ 5). own (λ other. let never : Point ≡ Nonce = sym (change-at place 5 r) ∙ other in cc) ∙ found-point params circuit is bounded seed place (change-at place 5 r);
     word = λ (r : place % 8 ≡ 6). own (λ other. let never : Word ≡ Nonce = sym (change-at place 6 r) ∙ other in cc) ∙ found-word params circuit is bounded seed place (change-at place 6 r);
     nonce = λ (r : place % 8 ≡ 7). replayed params circuit seed reports tried.small_seed tried.few_reports once place below r;
@@ -104,3 +110,31 @@ standard_is_valid valid text params circuit seed place loaded =
     let joint : List ℕ = joint_taken (counted_lengths circuit) (words_taken (counted_lengths circuit) seed place) in
     subst (λ (c : Program). IsValid c (encoding_of params (measurement params k)) joint) (sym is.1)
     (valid params (measurement params k) joint (measured params k is.0))
+
+pub standard_stand : StandardCallsStand
+standard_stand text params circuit loaded = subst CallsStand (sym (circuit-of text (Some params) circuit loaded).1) (standard_calls params)
+
+-- ---- how many have each verdict
+
+by-eighth : (params : Option Params) (circuit : Program) (seed reports place : ℕ) → FindsAt params circuit seed reports place → IsValidAt params circuit seed place
+    → CallsStand circuit → (r : ℕ) → place % 8 ≡ r → trial_verdict params circuit seed reports place ≡ verdict_by_eighth r
+by-eighth params circuit seed reports place found valid stand zero is = found.honest (omega (arith, is)) valid
+by-eighth params circuit seed reports place found valid stand (suc zero) is = found.honest (omega (arith, is)) valid
+by-eighth params circuit seed reports place found valid stand (suc (suc zero)) is = found.honest (omega (arith, is)) valid
+by-eighth params circuit seed reports place found valid stand (suc (suc (suc zero))) is = found.honest (omega (arith, is)) valid
+by-eighth params circuit seed reports place found valid stand (suc (suc (suc (suc zero)))) is = found.proof is stand
+by-eighth params circuit seed reports place found valid stand (suc (suc (suc (suc (suc zero))))) is = found.point is
+by-eighth params circuit seed reports place found valid stand (suc (suc (suc (suc (suc (suc zero)))))) is = found.word is
+by-eighth params circuit seed reports place found valid stand (suc (suc (suc (suc (suc (suc (suc zero))))))) is = found.nonce is
+by-eighth params circuit seed reports place found valid stand (suc (suc (suc (suc (suc (suc (suc (suc r)))))))) is = absurd (omega (arith, is))
+
+pub eighths_are_found : PlacesAreFound → StandardIsValid → StandardCallsStand
+    → ((circuit : Program) (shape : Shape) (claims reports : List (List ℕ)) → JudgesOnce circuit shape claims reports) → EighthsAreFound
+eighths_are_found places valid stand once text params circuit seed eighths tried =
+    let reports : ℕ = 8 * eighths in
+    let records : List (List ℕ) = trial_records (Some params) circuit seed reports in
+    counts-eighths eighths (verdicts_of circuit (trial_shape circuit) [] records)
+    ((once circuit (trial_shape circuit) [] records).each ∙ length-records (Some params) circuit seed reports tried.small_seed tried.few_reports)
+    (λ place below.
+    by-eighth (Some params) circuit seed reports place (places text (Some params) circuit seed reports place tried below)
+    (valid text params circuit seed place tried.loaded) (stand text params circuit tried.loaded) (place % 8) refl)

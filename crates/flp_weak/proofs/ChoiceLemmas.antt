@@ -1,10 +1,9 @@
 -- Choices for the weak words of several proofs.
-use Rattle.std.proofs.Common.{ℕ, List}
 use Rattle.std.proofs.lemmas.List.Elements.{All-weaker}
 use Rattle.flp_count.specs.Count.{AtMost}
 use Rattle.flp_count.proofs.ChoiceLemmas.{choices_are_few}
 use Rattle.flp_syntax.specs.Tree.{Program}
-use Rattle.flp_weak.specs.Laws.{WeakIsBounded, FewChoices, Challenged, IsFalse, AcceptsChoice}
+use Rattle.flp_weak.specs.Laws.{WeakIsBounded, FewChoices, IsFalse, AcceptsChoice}
 
 pub few_choices : (body : Program) → WeakIsBounded body → FewChoices body
 few_choices body bounded x proofs are_false =

@@ -3,6 +3,8 @@
 pub mod AtMost
 -- an encoding, read with what a proof answers
 pub mod Reading
+-- the room in which lies are looked for
+pub mod Room
 -- the weak word of a proof
 pub mod WeakWord
 -- the laws

@@ -8,45 +8,92 @@ ghost use Rattle.flp_weak.specs.WeakWord as weak;
 
 use crate::Memory;
 use flp_field::Fe;
-use flp_plan::{Plan, Reading};
+use flp_plan::{Plan, Reading, laws};
 use flp_prove::WireRoom;
 use flp_query::answers::{MOST_POINTS, write_answers};
 use flp_query::parts::{polynomial, seeds};
 use std::alloc::Global;
+use std::marker::Model;
 
 /// The coefficients that a gadget has at most.
 const MOST_COEFFICIENTS: usize = 32761;
 
-/// The least gadget that lies, where the proof answers the calls.
-pub(crate) fn lying_gadget(
-    alloc: Global,
-    plan: &Plan,
-    x: &[Fe],
-    joint: &[Fe],
-    proof: &[Fe],
-) -> Result<Option<u32>, Memory>
-    requires x { length x.now ≡ (counted_lengths plan.now.circuit).meas }
-    requires joint { length joint.now ≡ (counted_lengths plan.now.circuit).joint }
-    requires proof { length proof.now ≡ (counted_lengths plan.now.circuit).proof }
-    ensures { IfOk result (λ found. found ≡ weak.lying_gadget plan.now.circuit x.now joint.now proof.now) }
-{
-    let mut publics = vec![in alloc; Fe::ZERO; plan.publics_len() as usize]?;
-    let mut answers = vec![in alloc; Fe::ZERO; plan.call_count() as usize]?;
-    let mut points = vec![in alloc; Fe::ZERO; MOST_POINTS]?;
-    let mut formula = vec![in alloc; Fe::ZERO; MOST_COEFFICIENTS]?;
-    let mut room = WireRoom::new(alloc, plan)?;
-    let publics: &mut [Fe] = &mut publics;
-    let answers: &mut [Fe] = &mut answers;
-    plan.publics(joint, publics);
-    write_answers(plan, proof, &mut points, answers);
-    let reading = Reading {
-        publics,
-        x,
-        answers,
-        unit: Fe::ONE,
-    };
-    let found = first_lying(plan, &reading, proof, &mut room, &mut formula);
-    Ok(found)
+/// Room for what a proof answers and for the formulas of gadgets, made once for a plan and used again for each proof.
+///
+/// Contracts see the sizes that it was made for.
+#[derive(Drop)]
+pub(crate) struct LieFinder {
+    wires: WireRoom,
+    /// The public values under the joint words of a proof.
+    publics: Vec<Fe>,
+    /// What it answers to each call.
+    answers: Vec<Fe>,
+    /// The values of a gadget's polynomial on its domain.
+    points: Vec<Fe>,
+    /// The coefficients of a gadget at its wires.
+    formula: Vec<Fe>,
+}
+
+impl Model for LieFinder {
+    ghost use Rattle.std.specs.Prelude.{vec_len};
+    ghost use Rattle.flp_plan.specs.declared.sizes.Sizes.{Sizes};
+    ghost use Rattle.flp_weak.specs.Room.{HoldsLies};
+
+    ghost Value = { Sizes };
+
+    ghost view = { λ finder. finder.wires };
+
+    ghost invariant = { λ finder. HoldsLies finder.wires (vec_len finder.publics) (vec_len finder.answers) (vec_len finder.points) (vec_len finder.formula) };
+}
+
+impl LieFinder {
+    /// Room for the proofs of a plan.
+    pub(crate) fn new(alloc: Global, plan: &Plan) -> Result<LieFinder, Memory>
+        ensures { IfOk result (λ finder. finder ≡ sizes_of plan.now) }
+    {
+        laws::is_within_limits(plan);
+        let wires = WireRoom::new(alloc, plan)?;
+        let publics = vec![in alloc; Fe::ZERO; plan.publics_len() as usize]?;
+        let answers = vec![in alloc; Fe::ZERO; plan.call_count() as usize]?;
+        let points = vec![in alloc; Fe::ZERO; MOST_POINTS]?;
+        let formula = vec![in alloc; Fe::ZERO; MOST_COEFFICIENTS]?;
+        Ok(LieFinder {
+            wires,
+            publics,
+            answers,
+            points,
+            formula,
+        })
+    }
+
+    /// The least gadget that lies, where the proof answers the calls.
+    pub(crate) fn lying_gadget(
+        &mut self,
+        plan: &Plan,
+        x: &[Fe],
+        joint: &[Fe],
+        proof: &[Fe],
+    ) -> Option<u32>
+        requires made { self.old ≡ sizes_of plan.now }
+        requires x { length x.now ≡ (counted_lengths plan.now.circuit).meas }
+        requires joint { length joint.now ≡ (counted_lengths plan.now.circuit).joint }
+        requires proof { length proof.now ≡ (counted_lengths plan.now.circuit).proof }
+        ensures gadget { result ≡ weak.lying_gadget plan.now.circuit x.now joint.now proof.now }
+        ensures again { self.new ≡ self.old }
+    {
+        laws::is_within_limits(plan);
+        let publics: &mut [Fe] = &mut self.publics;
+        let answers: &mut [Fe] = &mut self.answers;
+        plan.publics(joint, publics);
+        write_answers(plan, proof, &mut self.points, answers);
+        let reading = Reading {
+            publics,
+            x,
+            answers,
+            unit: Fe::ONE,
+        };
+        first_lying(plan, &reading, proof, &mut self.wires, &mut self.formula)
+    }
 }
 
 /// The least gadget that lies, by what the proof answers. `formula` has room for the coefficients of any gadget.
@@ -61,7 +108,8 @@ fn first_lying(
     requires proof { length proof.now ≡ (counted_lengths plan.now.circuit).proof }
     requires made { room.old ≡ sizes_of plan.now }
     requires formula { length formula.old ≡ 32761 }
-    ensures { (joint : List ℕ) → reading.now.publics.now ≡ publics_of plan.now joint → result ≡ weak.lying_gadget plan.now.circuit reading.now.x.now joint proof.now }
+    ensures gadget { (joint : List ℕ) → reading.now.publics.now ≡ publics_of plan.now joint → result ≡ weak.lying_gadget plan.now.circuit reading.now.x.now joint proof.now }
+    ensures again { room.new ≡ room.old }
 {
     for gadget in 0..plan.gadgets() {
         if gadget_lies(plan, gadget, reading, proof, room, formula) {

@@ -3,17 +3,19 @@ ghost use Rattle.std.specs.Prelude.{◌≡◌, ◌<◌, ◌↔◌, length, IfOk,
 ghost use Rattle.flp_meaning.specs.Circuit.{IsValid};
 ghost use Rattle.flp_meaning.specs.Gadgets.{check_count};
 ghost use Rattle.flp_plan.specs.Counted.{counted_lengths};
+ghost use Rattle.flp_plan.specs.Sizes.{sizes_of};
 ghost use Rattle.flp_weak.specs.AtMost.{Bounded};
 ghost use Rattle.flp_weak.specs.WeakWord as weak;
 
 use crate::Memory;
 use crate::laws::{counted_soundness, valid_has_none};
-use crate::lies::lying_gadget;
+use crate::lies::LieFinder;
 use flp_field::{Fe, laws as words};
 use flp_gadget::Gadget;
 use flp_plan::{Plan, laws};
 use flp_prove::checks::Checker;
 use std::alloc::Global;
+use std::marker::Model;
 
 /// A word of a query, and how many of its values are accepted at most while the other words are fixed.
 #[derive(Debug, Clone, Copy, PartialEq, Eq)]
@@ -24,38 +26,66 @@ pub struct Weak {
     pub bound: u64,
 }
 
-/// The weak word of a proof of the encoding `x` under these joint words, or None exactly where the encoding is
-/// valid under them.
+/// Working room for the weak words of proofs, made once for a plan and used again for each proof.
 ///
-/// Where a gadget lies, that is, where the proof's polynomial for it is not its formula at the wires, the word is
-/// the point of the least such gadget, and the bound is its degree times the points of its domain less one. Where
-/// none does, the word is that of the least check that is not 0, and the bound is 1, or, for a check that stands
-/// alone, 0.
-///
-/// The slices have as many words as the plan's lengths `meas`, `joint` and `proof`.
-pub fn weak_word(
-    alloc: Global,
-    plan: &Plan,
-    x: &[Fe],
-    joint: &[Fe],
-    proof: &[Fe],
-) -> Result<Option<Weak>, Memory>
-    requires x { length x.now ≡ (counted_lengths plan.now.circuit).meas }
-    requires joint { length joint.now ≡ (counted_lengths plan.now.circuit).joint }
-    requires proof { length proof.now ≡ (counted_lengths plan.now.circuit).proof }
-    ensures exact { IfOk result (λ answer. answer ≡ weak.weak_of plan.now.circuit x.now joint.now proof.now) }
-    ensures none { IfOk result (λ answer. (answer ≡ None) ↔ IsValid plan.now.circuit x.now joint.now) }
-    ensures bounded { IfOk result (λ answer. IfSome answer (λ weak. Bounded plan.now.circuit x.now joint.now proof.now weak.word weak.bound)) }
-{
-    words::words(proof);
-    counted_soundness(plan);
-    valid_has_none(plan);
-    let mut checker = Checker::new(alloc, plan)?;
-    let Some(check) = checker.failing_check(plan, x, joint) else {
-        return Ok(None);
-    };
-    let lying = lying_gadget(alloc, plan, x, joint, proof)?;
-    Ok(Some(weakest(plan, check, lying)))
+/// Contracts see the sizes that it was made for. It serves each plan that asks for the same, and holds nothing of an
+/// earlier proof that a later one reads.
+#[derive(Drop)]
+pub struct WeakRoom {
+    checker: Checker,
+    lies: LieFinder,
+}
+
+impl Model for WeakRoom {
+    ghost use Rattle.std.specs.Prelude.{◌≡◌};
+    ghost use Rattle.flp_plan.specs.declared.sizes.Sizes.{Sizes};
+
+    ghost Value = { Sizes };
+
+    ghost view = { λ room. room.checker };
+
+    ghost invariant = { λ room. room.lies ≡ room.checker };
+}
+
+impl WeakRoom {
+    /// Room for the proofs of a plan. It takes all the memory that is needed.
+    pub fn new(alloc: Global, plan: &Plan) -> Result<WeakRoom, Memory>
+        ensures { IfOk result (λ room. room ≡ sizes_of plan.now) }
+    {
+        Ok(WeakRoom {
+            checker: Checker::new(alloc, plan)?,
+            lies: LieFinder::new(alloc, plan)?,
+        })
+    }
+
+    /// The weak word of a proof of the encoding `x` under these joint words, or None exactly where the encoding is
+    /// valid under them.
+    ///
+    /// Where a gadget lies, that is, where the proof's polynomial for it is not its formula at the wires, the word is
+    /// the point of the least such gadget, and the bound is its degree times the points of its domain less one. Where
+    /// none does, the word is that of the least check that is not 0, and the bound is 1, or, for a check that stands
+    /// alone, 0.
+    ///
+    /// The room serves the plan, as one does that was made for it or, by [`flp_plan::laws::ask_alike`], for a plan
+    /// that answers the same. The slices have as many words as the plan's lengths `meas`, `joint` and `proof`. It
+    /// takes no memory.
+    pub fn weak_word(&mut self, plan: &Plan, x: &[Fe], joint: &[Fe], proof: &[Fe]) -> Option<Weak>
+        requires made { self.old ≡ sizes_of plan.now }
+        requires x { length x.now ≡ (counted_lengths plan.now.circuit).meas }
+        requires joint { length joint.now ≡ (counted_lengths plan.now.circuit).joint }
+        requires proof { length proof.now ≡ (counted_lengths plan.now.circuit).proof }
+        ensures exact { result ≡ weak.weak_of plan.now.circuit x.now joint.now proof.now }
+        ensures none { (result ≡ None) ↔ IsValid plan.now.circuit x.now joint.now }
+        ensures bounded { IfSome result (λ weak. Bounded plan.now.circuit x.now joint.now proof.now weak.word weak.bound) }
+        ensures again { self.new ≡ self.old }
+    {
+        words::words(proof);
+        counted_soundness(plan);
+        valid_has_none(plan);
+        let check = self.checker.failing_check(plan, x, joint)?;
+        let lying = self.lies.lying_gadget(plan, x, joint, proof);
+        Some(weakest(plan, check, lying))
+    }
 }
 
 /// The weak word where this check fails, and the least gadget that lies is this one or none does.

@@ -51,6 +51,10 @@ trial_app =
     with_rule (with_rule (with_rule (new_app (codes "trial")) (required_option (codes "seed")))
     (required_option (codes "reports"))) (required_option (codes "workers"))
 
+-- `deal --party K`
+abbrev pub deal_app : App
+deal_app = with_rule (new_app (codes "deal")) (required_option (codes "party"))
+
 -- `upgrade --buckets B --bucket K`
 abbrev pub upgrade_app : App
 upgrade_app = with_rule (with_rule (new_app (codes "upgrade")) (required_option (codes "buckets"))) (required_option (codes "bucket"))
@@ -63,10 +67,14 @@ first_app = with_subcommand (with_subcommand (new_app (codes "flp")) verify_app.
 abbrev pub middle_app : App
 middle_app = with_subcommand (with_subcommand first_app lengths_app.top) prep_app.top
 
--- with all but two
+-- with all but three
 abbrev pub last_app : App
 last_app = with_subcommand (with_subcommand middle_app explain_app.top) hide_app.top
 
+-- with all but one
+abbrev pub but_one_app : App
+but_one_app = with_subcommand (with_subcommand last_app trial_app.top) deal_app.top
+
 -- the program, with a subcommand for each command
 abbrev pub flp_app : App
-flp_app = with_subcommand (with_subcommand last_app trial_app.top) upgrade_app.top
+flp_app = with_subcommand but_one_app upgrade_app.top

@@ -4,7 +4,7 @@ use Rattle.std.specs.Option.{option_map_or}
 use Rattle.std.specs.Str.{bytes_eq}
 use Rattle.clap.specs.Words.{Kinds, Row, Text, fault_of, first_of, subcommand_of}
 use Rattle.flp_words.specs.declared.command.Command.{Command}
-use Rattle.flp_words.specs.declared.command.Command.TheVariants.{Verify, Prove, Lengths, Prep, Explain, Hide, Trial, Upgrade}
+use Rattle.flp_words.specs.declared.command.Command.TheVariants.{Verify, Prove, Lengths, Prep, Explain, Hide, Trial, Deal, Upgrade}
 use Rattle.flp_words.specs.Number.{number_in}
 use Rattle.flp_words.specs.Apps.{flp_app}
 
@@ -17,6 +17,7 @@ IsInRange Lengths = ⊤
 IsInRange (Explain joint) = ⊤
 IsInRange Hide = ⊤
 IsInRange (Trial workers seed reports) = (1 ≤ workers) × (workers ≤ 16) × (reports ≤ 1000000)
+IsInRange (Deal party) = party ≤ 15
 IsInRange (Upgrade buckets bucket) = (1 ≤ buckets) × (buckets ≤ 256) × (bucket < buckets)
 
 -- the number of an option, where it has a value and that is in the range
@@ -43,6 +44,10 @@ trial_in rows =
     option_and_then (λ workers. option_and_then (λ seed. option_map (λ reports. Trial workers seed reports)
     (number_of rows (codes "reports") 0 1000000)) (number_of rows (codes "seed") 0 4294967295)) (number_of rows (codes "workers") 1 16)
 
+-- `deal` for the party of a number from 0 to 15
+abbrev pub deal_in : List Row → Option Command
+deal_in rows = option_map Deal (number_of rows (codes "party") 0 15)
+
 -- `upgrade` with 1 to 256 buckets, and one of them
 abbrev pub upgrade_in : List Row → Option Command
 upgrade_in rows =
@@ -63,8 +68,9 @@ command_by_name name rows =
     else (if bytes_eq name (codes "explain") then Some (explain_in rows)
     else (if bytes_eq name (codes "hide") then Some Hide
     else (if bytes_eq name (codes "trial") then trial_in rows
+    else (if bytes_eq name (codes "deal") then deal_in rows
     else (if bytes_eq name (codes "upgrade") then upgrade_in rows
-    else None)))))))
+    else None))))))))
 
 -- the command of the subcommand that `clap` met
 abbrev pub command_at : Option (Text × List Row) → Option Command

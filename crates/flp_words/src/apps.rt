@@ -2,7 +2,7 @@
 ghost use Rattle.std.specs.Prelude.{◌≡◌, IfOk, false};
 ghost use Rattle.clap.specs.Words.{app_of, rule_of};
 ghost use Rattle.clap.specs.declared.builder.command.Command.TheViews.{out-Command as fields_of};
-ghost use Rattle.flp_words.specs.Apps.{value_option, required_option, default_option, flag, verify_app, prep_app, explain_app, trial_app, upgrade_app, first_app, middle_app, last_app, flp_app};
+ghost use Rattle.flp_words.specs.Apps.{value_option, required_option, default_option, flag, verify_app, prep_app, explain_app, trial_app, deal_app, upgrade_app, first_app, middle_app, last_app, but_one_app, flp_app};
 
 use clap::{Arg, ArgAction, Command};
 use std::alloc::{AllocError, Global};
@@ -77,6 +77,14 @@ fn trial_app<'a>(alloc: Global) -> Result<Command<'a>, AllocError>
         .arg(required_option(alloc, "workers"))
 }
 
+/// `deal --party K`.
+fn deal_app<'a>(alloc: Global) -> Result<Command<'a>, AllocError>
+    ensures app { IfOk result (λ c. app_of c ≡ deal_app) }
+    ensures local { IfOk result (λ c. (fields_of c).has_globals ≡ false) }
+{
+    Command::new(alloc, "deal").arg(required_option(alloc, "party"))
+}
+
 /// `upgrade --buckets B --bucket K`.
 fn upgrade_app<'a>(alloc: Global) -> Result<Command<'a>, AllocError>
     ensures app { IfOk result (λ c. app_of c ≡ upgrade_app) }
@@ -105,7 +113,7 @@ fn middle_app<'a>(alloc: Global) -> Result<Command<'a>, AllocError>
         .subcommand(prep_app(alloc)?)
 }
 
-/// With all but two.
+/// With all but three.
 fn last_app<'a>(alloc: Global) -> Result<Command<'a>, AllocError>
     ensures app { IfOk result (λ c. app_of c ≡ last_app) }
 {
@@ -114,11 +122,18 @@ fn last_app<'a>(alloc: Global) -> Result<Command<'a>, AllocError>
         .subcommand(Command::new(alloc, "hide"))
 }
 
+/// With all but one.
+fn but_one_app<'a>(alloc: Global) -> Result<Command<'a>, AllocError>
+    ensures app { IfOk result (λ c. app_of c ≡ but_one_app) }
+{
+    last_app(alloc)?
+        .subcommand(trial_app(alloc)?)?
+        .subcommand(deal_app(alloc)?)
+}
+
 /// The program, with a subcommand for each command.
 pub fn flp_app<'a>(alloc: Global) -> Result<Command<'a>, AllocError>
     ensures app { IfOk result (λ c. app_of c ≡ flp_app) }
 {
-    last_app(alloc)?
-        .subcommand(trial_app(alloc)?)?
-        .subcommand(upgrade_app(alloc)?)
+    but_one_app(alloc)?.subcommand(upgrade_app(alloc)?)
 }

@@ -1,7 +1,7 @@
 //! Commands, and the one that the words name.
 ghost use Rattle.std.specs.Prelude.{◌≡◌, ◌≢◌, ◌≤◌, IfOk, IfSome, map, option_map, None};
 ghost use Rattle.clap.specs.Words.{first_of, found_of, kind_of, rows_of, subcommand_rows_of};
-ghost use Rattle.flp_words.specs.Command.{IsInRange, command_in, command_at, command_by_name, number_of, is_given, verify_in, prep_in, explain_in, trial_in, upgrade_in};
+ghost use Rattle.flp_words.specs.Command.{IsInRange, command_in, command_at, command_by_name, number_of, is_given, verify_in, prep_in, explain_in, trial_in, deal_in, upgrade_in};
 
 use crate::apps::flp_app;
 use crate::number::number_in;
@@ -44,6 +44,8 @@ pub enum Command {
         /// How many reports, at most 1,000,000.
         reports: u32,
     },
+    /// Make the share file of this party, from 0 to 15.
+    Deal(u32),
     /// Write a batch of version 1 as one of version 2, all reports in one bucket.
     Upgrade {
         /// How many buckets, from 1 to 256.
@@ -107,6 +109,14 @@ fn trial_in(matches: &ArgMatches<'_>) -> Option<Command>
     })
 }
 
+/// `deal`, with the number of its party.
+fn deal_in(matches: &ArgMatches<'_>) -> Option<Command>
+    ensures command { result ≡ deal_in (rows_of (found_of matches.now)) }
+    ensures range { IfSome result IsInRange }
+{
+    Some(Command::Deal(number_of(matches, "party", 0, 15)?))
+}
+
 /// `upgrade`, with the number of buckets and the bucket of all reports.
 fn upgrade_in(matches: &ArgMatches<'_>) -> Option<Command>
     ensures command { result ≡ upgrade_in (rows_of (found_of matches.now)) }
@@ -139,6 +149,7 @@ fn command_by_name(name: &str, matches: &ArgMatches<'_>) -> Option<Command>
         "explain" => Some(explain_in(matches)),
         "hide" => Some(Command::Hide),
         "trial" => trial_in(matches),
+        "deal" => deal_in(matches),
         "upgrade" => upgrade_in(matches),
         _ => None,
     }

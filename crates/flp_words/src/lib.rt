@@ -14,6 +14,7 @@
 //! | `explain --joint` | [`Command::Explain`] |
 //! | `hide` | [`Command::Hide`] |
 //! | `trial --seed X --reports N --workers W`, X to 4,294,967,295, N to 1,000,000, W from 1 to 16 | [`Command::Trial`] |
+//! | `deal --party K`, K from 0 to 15 | [`Command::Deal`] |
 //! | `upgrade --buckets B --bucket K`, B from 1 to 256, K below B | [`Command::Upgrade`] |
 //!
 //! `--workers`, `--party`, `--seed`, `--reports`, `--buckets` and `--bucket` must be given; M is 0 where `--min` is not, and `--claims` and `--joint` are flags without a value.

@@ -9,6 +9,7 @@ use Rattle.flp_reseed.specs.Reply.{hide_rules}
 use Rattle.flp_reseed.specs.Text.{hidden_text}
 use Rattle.flp_cli.proofs.WholeLemmas.{jobs-ends, lengths-ends}
 use Rattle.flp_cli.proofs.TrialLemmas.{trial-ends}
+use Rattle.flp_cli.proofs.PartyLemmas.{deal-ends}
 use Rattle.flp_cli.proofs.UpgradeLemmas.{upgrade-ends}
 use Rattle.flp_cli.proofs.commands.perform.Goals as goal
 
@@ -59,6 +60,13 @@ returns-in-Trial g c =
     let trial = c.in-Trial in
     rw (trial.is, c.by_file-in-Trial.ensures, c.all_done-in-Trial.ensures)
     (trial-ends trial.seed trial.reports _ _ c.trial.result answer.done answer.stopped answer.ends)
+
+pub returns-in-Deal : goal.returns-in-Deal
+returns-in-Deal g c =
+    let answer = c.deal.ensures in
+    let party = c.in-Deal.party in
+    rw (c.in-Deal.is, c.by_file-in-Deal.ensures, c.all_done-in-Deal.ensures)
+    (deal-ends party _ _ c.deal.result answer.done answer.stopped answer.kept answer.settled answer.ends)
 
 pub returns : goal.returns
 returns g c =

@@ -30,7 +30,6 @@ returns c = record {
     made_honestly = c.records_are_honest.ensures bytes by provable;
   };
   seeds = c.seeds_match.ensures;
-  places = c.places.ensures.found;
-  standard = c.places.ensures.standard;
+  trials = c.places.ensures;
   upgraded = c.reads_back-2.ensures;
 }

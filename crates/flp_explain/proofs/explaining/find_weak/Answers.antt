@@ -12,11 +12,11 @@ weak_word-requires-clause-x c =
     ap length c.requires.encoding
     ∙ (length-sum_of_lists shape.meas (map (share_encoding shape (words_held c.args.words.now)) (share_numbers shape)) ∙ c.requires.fits.meas)
 
-pub returns : goal.returns
-returns c =
+pub returns-clause-found : goal.returns-clause-found
+returns-clause-found c =
     let program = c.args.plan.now.circuit in
     let shape = shape_held c.args.words.now in
     let words = words_held c.args.words.now in
-    c.in_ok-found.ensures.exact
+    c.weak_word.ensures.exact
     ∙ ap₂ (λ (x j : List ℕ). weak_of program x j c.write_proof.new.out) c.requires.encoding c.joint.ensures.words
     ∙ ap (λ (p : List ℕ). weak_of program (unshared_encoding shape words) (joint_words shape words c.args.proof) p) c.write_proof.ensures

@@ -12,8 +12,12 @@ use Rattle.flp_explain.proofs.explaining.push_proof_lines.Goals as goal
 pub loop-proof-preserved : goal.loop-proof-preserved
 loop-proof-preserved c =
     let shape = shape_held c.args.words.now in
-    let found = weak-found c.args.plan.now.circuit shape (record_of c.args.given.now) (words_held c.args.words.now) c.loop-proof.proof c.in_ok-found.found c.requires.words c.in_ok-found.ensures in
-    more-behind (proof_line c.args.plan.now.circuit shape (record_of c.args.given.now)) c.loop-proof.proof
-    c.args.line.now.items c.loop-proof.line.items c.push_proof_line.new.text.items c.loop-proof.invariant
-    (c.in_ok-push_proof_line.ensures
-    ∙ ap₂ (λ (n : List ℕ) (w : Option Weak). c.loop-proof.line.items ++ line_with n (of_proof c.loop-proof.proof w)) c.nonce.ensures found)
+    let found = weak-found c.args.plan.now.circuit shape (record_of c.args.given.now) (words_held c.args.words.now) c.loop-proof.proof c.find_weak-found.result c.requires.words c.find_weak-found.ensures.found in
+    record {
+      lines =
+          more-behind (proof_line c.args.plan.now.circuit shape (record_of c.args.given.now)) c.loop-proof.proof
+          c.args.line.now.items c.loop-proof.line.items c.push_proof_line.new.text.items c.loop-proof.invariant.lines
+          (c.in_ok-push_proof_line.ensures
+          ∙ ap₂ (λ (n : List ℕ) (w : Option Weak). c.loop-proof.line.items ++ line_with n (of_proof c.loop-proof.proof w)) c.nonce.ensures found);
+      again = c.find_weak-found.ensures.again ∙ c.loop-proof.invariant.again;
+    }

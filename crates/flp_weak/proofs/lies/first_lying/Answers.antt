@@ -3,8 +3,8 @@ use Rattle.flp_query.proofs.DomainLemmas.{first-here, first-more}
 use Rattle.flp_weak.specs.WeakWord.{gadget_lies}
 use Rattle.flp_weak.proofs.lies.first_lying.Goals as goal
 
-pub returns-then-gadget_lies : goal.returns-then-gadget_lies
-returns-then-gadget_lies c joint same =
+pub returns-then-gadget_lies-clause-gadget : goal.returns-then-gadget_lies-clause-gadget
+returns-then-gadget_lies-clause-gadget c joint same =
     sym
     (c.loop-gadget.invariant.goes_on joint same
     ∙ first-here (gadget_lies c.args.plan.now.circuit c.args.reading.now.x.now joint c.args.proof.now) c.loop-gadget.gadget (length c.args.plan.now.circuit.gadgets)

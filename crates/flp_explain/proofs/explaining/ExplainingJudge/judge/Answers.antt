@@ -20,4 +20,4 @@ returns-clause-line c =
     let good : bad_word_in (words_in (shape_of c.args.given.now) (record_of c.args.given.now)) ≡ None = sym c.load.ensures.bad ∙ ap result_err c.in_default.is in
     on_ok_weaker c.push_encoding_line.result (λ made earlier follows.
     made-whole c.args.self.now.joint (setting_of c.args.self.now) (shape_of c.args.given.now) (record_of c.args.given.now) c.requires.shape _ _ _ _
-    c.new-words.ensures.shape good c.clear.ensures.items c.in_ok-push_proof_lines.ensures made) c.push_encoding_line.ensures
+    c.new-words.ensures.shape good c.clear.ensures.items c.in_ok-push_proof_lines.ensures.lines made) c.push_encoding_line.ensures
