@@ -1,6 +1,6 @@
 -- What each party may tell of a record to the reader of a share file, and what the lines of all parties decide together. From
 -- what a line says up to a party's part of the aggregate. `shape` is the shape of the records of share files, with one share.
-use Rattle.std.specs.Prelude.{ℕ, ◌+◌, ◌*◌, ◌<◌, ◌≤◌, ◌≡◌, ◌⊎◌, ⊥, Bool, true, false, min, List, [], ◌∷◌, ◌++◌, Option, Some, None, All, map, option_map, length, take, drop, codes, decimal}
+use Rattle.std.specs.Prelude.{ℕ, ◌+◌, ◌*◌, ◌<◌, ◌≤◌, ◌≡◌, ◌⊎◌, Bool, true, false, min, List, [], ◌∷◌, ◌++◌, Option, Some, None, All, map, option_map, length, take, drop, codes, decimal}
 use Rattle.std.specs.List.{list_all}
 use Rattle.flp_field.specs.Sums.{sum_of_lists}
 use Rattle.flp_field.specs.Word.{IsWord}
