@@ -1,3 +1,3 @@
 -- The lemmas of rows.
--- a form times a factor, term by term
-pub mod ScaledLemmas
+-- what a form adds to a row
+pub mod RowLemmas

@@ -1,3 +1,3 @@
--- Rows, from one form that is added up.
--- a form times a factor, added to a row
+-- Rows of pairs over slots.
+-- rows, their values, and what a form adds to them
 pub mod Rows

@@ -1,18 +1,18 @@
-//! Linear forms that are made ready for many shares: what is public is worked out once for a proof, and each share then
-//! takes one sum of products for each word that is asked of it.
+//! Linear forms made ready for many shares: what is public is worked out once for a proof, and each share then takes one
+//! sum of products for each word that is asked of it.
 //!
-//! A row is a linear form over slots: numbers that depend on public words alone, as a weight times a public value.
-//! [`add_scaled`] adds a form times a factor to a row, and appends the products that this takes to the slots;
-//! [`row_at`] is the value of a row on a share, of which the products are summed as whole numbers and brought below the
-//! modulus once.
+//! A slot is a number that depends on public words alone, as a weight times a public value. A row is a list of pairs, each
+//! of a slot and a word of the share, and a slot that is multiplied by the unit. [`add_scaled`] adds a form times a factor
+//! to a row and appends the slots that this takes; [`pairs_at`] is the value of a row's pairs on a share, of which the
+//! products are summed as whole numbers and brought below the modulus once.
 //!
 //! Only [`add_scaled`] takes memory.
 #![tactic(auto)]
 
-mod row;
+mod rows;
 mod scaled;
 
-pub use row::row_at;
+pub use rows::{Pair, Row, pairs_at};
 pub use scaled::add_scaled;
 /// Want of memory.
 pub use std::alloc::AllocError as Memory;

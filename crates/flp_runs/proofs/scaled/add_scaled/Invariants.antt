@@ -6,5 +6,5 @@ use Rattle.flp_runs.proofs.scaled.add_scaled.Given as goal
 abbrev pub invariant-loop-term : goal.invariant-loop-term
 invariant-loop-term l = record {
   grows : Grows l.fn.slots l.slots;
-  added : AddsScaled l.fn.slots l.slots l.factor (take l.term-index l.form) l.fn.row.items l.row.items;
+  added : AddsScaled l.meas l.fn.slots l.slots l.factor (take l.term-index l.form) l.fn.row l.row;
 }
