@@ -4,6 +4,6 @@ use Rattle.flp_runs.proofs.rows.pairs_at.Given as goal
 
 abbrev pub invariant-loop-pair : goal.invariant-loop-pair
 invariant-loop-pair l = record {
-  sum : l.sum ≡ l.start + pairs_value l.slots l.words (take l.pair-index l.pairs);
+  sum : l.sum ≡ l.fn.start + pairs_value l.slots l.words (take l.pair-index l.pairs);
   room : l.sum ≤ (l.pair-index + 2) * product_bound;
 }
