@@ -29,7 +29,6 @@ pub mod parts;
 mod room;
 mod scratch;
 mod unit;
-mod values;
 mod verifier;
 mod weights;
 mod wires;
