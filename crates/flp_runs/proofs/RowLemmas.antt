@@ -1,19 +1,22 @@
 -- What a form adds to a row, word by word and term by term.
-use Rattle.std.proofs.Common.{ℕ, ◌≡◌, ◌+◌, ◌-◌, ◌*◌, ◌<◌, ◌≤◌, List, [], ◌∷◌, ◌++◌, length, get_or, refl, sym, ap, ap₂, subst, ◌∙◌, arith}
+use Rattle.std.proofs.Common.{ℕ, ◌≡◌, ◌+◌, ◌-◌, ◌*◌, ◌%◌, ◌<◌, ◌≤◌, List, [], ◌∷◌, ◌++◌, length, get_or, refl, sym, ap, ap₂, subst, ◌∙◌, arith}
 use Rattle.std.specs.Prelude.{All, Some}
 use Rattle.std.proofs.lemmas.List.{get_or_append_left, get_or-append_right}
 use Rattle.std.proofs.lemmas.List.Sums.{sum_by-append, sum_by-cons}
 use Rattle.std.proofs.lemmas.List.Elements.{All-push, All-pop, All-weaker}
+use Rattle.flp_field.specs.Word.{modulus}
+use Rattle.flp_field.proofs.Congruence.{Same, same_add, same_mul, same_mod}
 use Rattle.flp_forms.specs.declared.term.Term.{Term}
 use Rattle.flp_forms.specs.declared.term.Scale.{Scale}
 use Rattle.flp_forms.specs.declared.term.Scale.TheVariants.{One, MinusOne, Value}
 use Rattle.flp_forms.specs.declared.term.Source.{Source}
 use Rattle.flp_forms.specs.declared.term.Source.TheVariants.{Unit as ByUnit, Meas, Answer}
-use Rattle.flp_forms.specs.PublicValues.{publics, public_at}
-use Rattle.flp_forms.specs.LinearForms.{Share, scale_value, source_value, form_value, ScaleFits, SourceFits, TermFits, FormFits}
+use Rattle.flp_forms.specs.PublicValues.{publics, public_at, residues}
+use Rattle.flp_forms.specs.LinearForms.{Share, scale_value, source_value, form_value, ScaleFits, SourceFits, TermFits}
 use Rattle.flp_forms.specs.StraightLine.{StraightLine, Grows, StandsFor, ScalesBy}
+use Rattle.flp_forms.proofs.PublicLemmas.{get_or-reduced}
 use Rattle.flp_forms.proofs.FormLemmas.{form_value-push}
-use Rattle.flp_forms.proofs.LineLemmas.{grows_refl, grows_trans, length-grows, public_at-grows}
+use Rattle.flp_forms.proofs.LineLemmas.{grows_trans, length-grows, public_at-grows}
 use Rattle.flp_runs.specs.declared.rows.Pair.{Pair}
 use Rattle.flp_runs.specs.declared.rows.Row.{Row}
 use Rattle.flp_runs.specs.Rows.{pair_value, pairs_value, words_read, row_value, PairFits, RowFits, IsProduct, AddsWord, AddsTerm, AddsScaled}
@@ -62,6 +65,18 @@ pairs_value-push slots words pairs pair =
     sum_by-append (pair_value slots words) pairs (pair ∷ [])
     ∙ ap (λ (n : ℕ). pairs_value slots words pairs + n) (sum_by-cons (pair_value slots words) pair [])
     ∙ (omega arith)
+
+-- slots may be taken modulo p
+pub pairs_value-reduced : (values words : List ℕ) (pairs : List Pair)
+    → Same (pairs_value (residues values) words pairs) (pairs_value values words pairs)
+pairs_value-reduced values words [] = refl
+pairs_value-reduced values words (pair ∷ pairs) =
+    ap (λ (n : ℕ). n % modulus) (sum_by-cons (pair_value (residues values) words) pair pairs)
+    ∙ same_add (pair_value (residues values) words pair) (pair_value values words pair) _ (pairs_value values words pairs)
+    (same_mul _ (get_or values pair.slot 0) _ (get_or words pair.word 0)
+    (ap (λ (n : ℕ). n % modulus) (get_or-reduced values pair.slot) ∙ same_mod (get_or values pair.slot 0)) refl)
+    (pairs_value-reduced values words pairs)
+    ∙ ap (λ (n : ℕ). n % modulus) (sym (sum_by-cons (pair_value values words) pair pairs))
 
 -- with more slots a pair still reads what is there
 pairs_fit-more : (few many words : ℕ) (pairs : List Pair) → few ≤ many → All (PairFits few words) pairs → All (PairFits many words) pairs

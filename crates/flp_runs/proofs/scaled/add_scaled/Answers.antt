@@ -1,4 +1,4 @@
-use Rattle.std.proofs.Common.{◌+◌, List, sym, subst, arith, take}
+use Rattle.std.proofs.Common.{List, sym, subst, arith, take}
 use Rattle.std.proofs.lemmas.List.{take_more}
 use Rattle.flp_forms.specs.declared.term.Term.{Term}
 use Rattle.flp_forms.proofs.LineLemmas.{grows_trans}
