@@ -3,7 +3,7 @@ use Rattle.std.proofs.Common.{ℕ, ◌≡◌, ◌+◌, ◌-◌, ◌*◌, ◌%◌
 use Rattle.std.specs.Prelude.{All, Some}
 use Rattle.std.proofs.lemmas.List.{get_or_append_left, get_or-append_right}
 use Rattle.std.proofs.lemmas.List.Sums.{sum_by-append, sum_by-cons}
-use Rattle.std.proofs.lemmas.List.Elements.{All-push, All-pop, All-weaker}
+use Rattle.std.proofs.lemmas.List.Elements.{All-nil, All-push, All-pop, All-weaker}
 use Rattle.flp_field.specs.Word.{modulus}
 use Rattle.flp_field.proofs.Congruence.{Same, same_add, same_mul, same_mod}
 use Rattle.flp_forms.specs.declared.term.Term.{Term}
@@ -19,7 +19,7 @@ use Rattle.flp_forms.proofs.FormLemmas.{form_value-push}
 use Rattle.flp_forms.proofs.LineLemmas.{grows_trans, length-grows, public_at-grows}
 use Rattle.flp_runs.specs.declared.rows.Pair.{Pair}
 use Rattle.flp_runs.specs.declared.rows.Row.{Row}
-use Rattle.flp_runs.specs.Rows.{pair_value, pairs_value, words_read, row_value, PairFits, RowFits, IsProduct, AddsWord, AddsTerm, AddsScaled}
+use Rattle.flp_runs.specs.Rows.{pair_value, pairs_value, words_read, row_value, PairFits, RowFits, IsEmpty, IsProduct, AddsWord, AddsTerm, AddsScaled}
 
 -- ---- slots
 
@@ -246,3 +246,32 @@ scaled-more meas old mid new factor form term first before after grows grows' so
       adds.fits answers (term_fits-more old mid meas answers term grows parts.1) (so_far.fits answers parts.0 whole);
   constant = adds.constant;
 }
+
+-- ---- rows
+
+-- before anything was added
+pub empty-row : (line : StraightLine) (row : Row) → StandsFor line row.constant (λ words. 0) → row.pairs.items ≡ [] → IsEmpty line row
+empty-row line row stands none = record {
+  value =
+      λ later more words share.
+      let zero : get_or (publics later.steps words) row.constant 0 ≡ 0 =
+      public_at-grows line later row.constant words more stands.within ∙ stands.value words in
+      ap₂ (λ (l : List Pair) (n : ℕ). pairs_value (publics later.steps words) (words_read share) l + n * share.unit) none zero ∙ (omega arith);
+  fits = λ words. record { pairs = subst (λ (l : List Pair). All (PairFits (length line.steps) words) l) (sym none) (All-nil (PairFits (length line.steps) words)); constant = stands.within };
+}
+
+-- the sum of what it began with, the slot for the unit and the pairs is the row's value
+pub row-value-is : (values words : List ℕ) (share : Share) (row : Row) (start slot unit sum result : ℕ)
+    → slot ≡ get_or (residues values) row.constant 0 → sum ≡ start + slot * unit → unit ≡ share.unit → words ≡ words_read share
+    → result ≡ (sum + pairs_value values words row.pairs.items) % modulus
+    → result ≡ (start + row_value values share row) % modulus
+row-value-is values words share row start slot unit sum result read summed same all is =
+    let p : ℕ = pairs_value values (words_read share) row.pairs.items in
+    let v : ℕ = get_or values row.constant 0 in
+    let first : Same (slot * unit) (v * share.unit) =
+    same_mul slot v unit share.unit (ap (λ (n : ℕ). n % modulus) (read ∙ get_or-reduced values row.constant) ∙ same_mod v) (ap (λ (n : ℕ). n % modulus) same) in
+    let turned : (start + v * share.unit) + p ≡ start + (p + v * share.unit) = omega arith in
+    is
+    ∙ ap₂ (λ (n : ℕ) (l : List ℕ). (n + pairs_value values l row.pairs.items) % modulus) summed all
+    ∙ same_add (start + slot * unit) (start + v * share.unit) p p (same_add start start (slot * unit) (v * share.unit) refl first) refl
+    ∙ ap (λ (n : ℕ). n % modulus) turned

@@ -41,6 +41,12 @@ pub record RowFits (slots words : ℕ) (row : Row) : Type 0 where
 
 -- ---- what is said of values is said of all slots that go on from here, since what is appended later changes none
 
+-- a row to which nothing was added
+pub record IsEmpty (line : StraightLine) (row : Row) : Type 0 where
+  pub value : (later : StraightLine) → Grows line later → (words : List ℕ) (share : Share)
+      → row_value (publics later.steps words) share row ≡ 0
+  pub fits : (words : ℕ) → RowFits (length line.steps) words row
+
 -- the slot is there, and is the product of two coefficients
 pub record IsProduct (line : StraightLine) (left right : Scale) (slot : ℕ) : Type 0 where
   pub within : slot < length line.steps
