@@ -3,7 +3,7 @@ ghost use Rattle.std.specs.Prelude.{◌≡◌, ◌+◌, ◌*◌, ◌≤◌, ◌<
 ghost use Rattle.flp_forms.specs.PublicValues.{publics};
 ghost use Rattle.flp_forms.specs.StraightLine.{Grows, StandsFor};
 ghost use Rattle.flp_forms.specs.LinearForms.{scale_value, ScaleFits, SourceFits, TermFits, FormFits};
-ghost use Rattle.flp_runs.specs.Rows.{AddsWord, AddsTerm, AddsScaled, IsProduct};
+ghost use Rattle.flp_rows.specs.Rows.{AddsWord, AddsTerm, AddsScaled, IsProduct};
 
 use crate::Memory;
 use crate::rows::{Pair, Row};

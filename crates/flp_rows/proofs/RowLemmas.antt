@@ -17,9 +17,9 @@ use Rattle.flp_forms.specs.StraightLine.{StraightLine, Grows, StandsFor, ScalesB
 use Rattle.flp_forms.proofs.PublicLemmas.{get_or-reduced}
 use Rattle.flp_forms.proofs.FormLemmas.{form_value-push}
 use Rattle.flp_forms.proofs.LineLemmas.{grows_trans, length-grows, public_at-grows}
-use Rattle.flp_runs.specs.declared.rows.Pair.{Pair}
-use Rattle.flp_runs.specs.declared.rows.Row.{Row}
-use Rattle.flp_runs.specs.Rows.{pair_value, pairs_value, words_read, row_value, PairFits, RowFits, IsEmpty, IsProduct, AddsWord, AddsTerm, AddsScaled}
+use Rattle.flp_rows.specs.declared.rows.Pair.{Pair}
+use Rattle.flp_rows.specs.declared.rows.Row.{Row}
+use Rattle.flp_rows.specs.Rows.{pair_value, pairs_value, words_read, row_value, PairFits, RowFits, IsEmpty, IsProduct, AddsWord, AddsTerm, AddsScaled}
 
 -- ---- slots
 

@@ -1,5 +1,5 @@
-use Rattle.flp_runs.proofs.RowLemmas.{product-is}
-use Rattle.flp_runs.proofs.scaled.product_slot.Goals as goal
+use Rattle.flp_rows.proofs.RowLemmas.{product-is}
+use Rattle.flp_rows.proofs.scaled.product_slot.Goals as goal
 
 pub returns-clause-product : goal.returns-clause-product
 returns-clause-product c =

@@ -1,5 +1,5 @@
-use Rattle.flp_runs.proofs.RowLemmas.{added-term}
-use Rattle.flp_runs.proofs.scaled.add_term.Goals as goal
+use Rattle.flp_rows.proofs.RowLemmas.{added-term}
+use Rattle.flp_rows.proofs.scaled.add_term.Goals as goal
 
 pub returns-clause-added : goal.returns-clause-added
 returns-clause-added c =

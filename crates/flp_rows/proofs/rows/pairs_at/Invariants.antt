@@ -1,6 +1,6 @@
 use Rattle.std.proofs.Common.{◌≡◌, ◌+◌, ◌*◌, ◌≤◌, take}
-use Rattle.flp_runs.specs.Rows.{product_bound, pairs_value}
-use Rattle.flp_runs.proofs.rows.pairs_at.Given as goal
+use Rattle.flp_rows.specs.Rows.{product_bound, pairs_value}
+use Rattle.flp_rows.proofs.rows.pairs_at.Given as goal
 
 abbrev pub invariant-loop-pair : goal.invariant-loop-pair
 invariant-loop-pair l = record {

@@ -1,8 +1,8 @@
 use Rattle.std.proofs.Common.{◌<◌, ◌+◌, refl, subst}
 use Rattle.flp_forms.specs.declared.term.Source.{Source}
 use Rattle.flp_forms.specs.LinearForms.{SourceFits}
-use Rattle.flp_runs.proofs.RowLemmas.{added-unit, added-meas, added-answer}
-use Rattle.flp_runs.proofs.scaled.add_word.Goals as goal
+use Rattle.flp_rows.proofs.RowLemmas.{added-unit, added-meas, added-answer}
+use Rattle.flp_rows.proofs.scaled.add_word.Goals as goal
 
 pub returns-in_ok-constant-in-Unit-clause-added : goal.returns-in_ok-constant-in-Unit-clause-added
 returns-in_ok-constant-in-Unit-clause-added c =

@@ -1,7 +1,7 @@
 use Rattle.std.proofs.Common.{take}
 use Rattle.flp_forms.specs.StraightLine.{Grows}
-use Rattle.flp_runs.specs.Rows.{AddsScaled}
-use Rattle.flp_runs.proofs.scaled.add_scaled.Given as goal
+use Rattle.flp_rows.specs.Rows.{AddsScaled}
+use Rattle.flp_rows.proofs.scaled.add_scaled.Given as goal
 
 abbrev pub invariant-loop-term : goal.invariant-loop-term
 invariant-loop-term l = record {

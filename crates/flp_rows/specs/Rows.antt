@@ -6,8 +6,8 @@ use Rattle.flp_forms.specs.declared.term.Source.{Source}
 use Rattle.flp_forms.specs.PublicValues.{publics}
 use Rattle.flp_forms.specs.LinearForms.{Share, scale_value, source_value, term_value, form_value, SourceFits, TermFits, FormFits}
 use Rattle.flp_forms.specs.StraightLine.{StraightLine, Grows}
-use Rattle.flp_runs.specs.declared.rows.Pair.{Pair}
-use Rattle.flp_runs.specs.declared.rows.Row.{Row}
+use Rattle.flp_rows.specs.declared.rows.Pair.{Pair}
+use Rattle.flp_rows.specs.declared.rows.Row.{Row}
 
 -- what a product of two words is below, 2^128
 abbrev pub product_bound : ℕ

@@ -1,5 +1,5 @@
-use Rattle.flp_runs.proofs.RowLemmas.{empty-row}
-use Rattle.flp_runs.proofs.rows.Row.new.Goals as goal
+use Rattle.flp_rows.proofs.RowLemmas.{empty-row}
+use Rattle.flp_rows.proofs.rows.Row.new.Goals as goal
 
 pub returns-clause-empty : goal.returns-clause-empty
 returns-clause-empty c =

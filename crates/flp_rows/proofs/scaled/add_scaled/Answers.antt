@@ -2,9 +2,9 @@ use Rattle.std.proofs.Common.{List, sym, subst, arith, take}
 use Rattle.std.proofs.lemmas.List.{take_more}
 use Rattle.flp_forms.specs.declared.term.Term.{Term}
 use Rattle.flp_forms.proofs.LineLemmas.{grows_trans}
-use Rattle.flp_runs.specs.Rows.{AddsScaled}
-use Rattle.flp_runs.proofs.RowLemmas.{scaled-more}
-use Rattle.flp_runs.proofs.scaled.add_scaled.Goals as goal
+use Rattle.flp_rows.specs.Rows.{AddsScaled}
+use Rattle.flp_rows.proofs.RowLemmas.{scaled-more}
+use Rattle.flp_rows.proofs.scaled.add_scaled.Goals as goal
 
 pub loop-term-preserved : goal.loop-term-preserved
 loop-term-preserved c = record {

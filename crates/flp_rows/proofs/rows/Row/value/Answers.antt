@@ -1,10 +1,10 @@
 use Rattle.std.proofs.Common.{ℕ, ◌+◌, ◌%◌, List, get_or, ap, ◌∙◌}
 use Rattle.std.proofs.lemmas.List.{get_or_read}
 use Rattle.flp_field.specs.Word.{modulus}
-use Rattle.flp_runs.specs.declared.rows.Pair.{Pair}
-use Rattle.flp_runs.specs.Rows.{pairs_value}
-use Rattle.flp_runs.proofs.RowLemmas.{row-value-is}
-use Rattle.flp_runs.proofs.rows.Row.value.Goals as goal
+use Rattle.flp_rows.specs.declared.rows.Pair.{Pair}
+use Rattle.flp_rows.specs.Rows.{pairs_value}
+use Rattle.flp_rows.proofs.RowLemmas.{row-value-is}
+use Rattle.flp_rows.proofs.rows.Row.value.Goals as goal
 
 pub returns : goal.returns
 returns c values share same all unit =

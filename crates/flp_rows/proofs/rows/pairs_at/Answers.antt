@@ -3,10 +3,10 @@ use Rattle.std.proofs.lemmas.List.{take_all}
 use Rattle.flp_field.specs.Word.{modulus}
 use Rattle.flp_field.proofs.Congruence.{same_add}
 use Rattle.flp_forms.specs.PublicValues.{residues}
-use Rattle.flp_runs.specs.declared.rows.Pair.{Pair}
-use Rattle.flp_runs.specs.Rows.{pairs_value}
-use Rattle.flp_runs.proofs.RowLemmas.{pairs_value-reduced}
-use Rattle.flp_runs.proofs.rows.pairs_at.Goals as goal
+use Rattle.flp_rows.specs.declared.rows.Pair.{Pair}
+use Rattle.flp_rows.specs.Rows.{pairs_value}
+use Rattle.flp_rows.proofs.RowLemmas.{pairs_value-reduced}
+use Rattle.flp_rows.proofs.rows.pairs_at.Goals as goal
 
 pub returns-clause-reduced : goal.returns-clause-reduced
 returns-clause-reduced c values same =

@@ -4,7 +4,7 @@ ghost use Rattle.flp_field.specs.Word.{modulus};
 ghost use Rattle.flp_forms.specs.PublicValues.{residues};
 ghost use Rattle.flp_forms.specs.StraightLine.{Grows};
 ghost use Rattle.flp_forms.specs.LinearForms.{Share};
-ghost use Rattle.flp_runs.specs.Rows.{product_bound, pairs_value, words_read, row_value, PairFits, RowFits, IsEmpty};
+ghost use Rattle.flp_rows.specs.Rows.{product_bound, pairs_value, words_read, row_value, PairFits, RowFits, IsEmpty};
 
 use crate::Memory;
 use flp_field::{Fe, Sum};
