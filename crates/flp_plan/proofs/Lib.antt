@@ -17,6 +17,8 @@ pub mod LimitLemmas
 -- forms, and the code that stands for a circuit
 pub mod FormLemmas
 mod TiedLemmas
+-- the forms that a plan lends
+mod LentLemmas
 -- gadgets as a plan holds them, and numbers of calls
 mod UseLemmas
 mod NumberLemmas

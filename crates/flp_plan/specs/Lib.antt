@@ -21,3 +21,5 @@ pub mod Keeps
 pub mod Sizes
 -- what the wires of a gadget run through
 pub mod Rows
+-- the forms that a plan lends
+pub mod Forms

@@ -18,6 +18,7 @@
 
 mod compiler;
 mod fault;
+mod forms;
 mod gadgets;
 mod kinds;
 pub mod laws;

@@ -29,6 +29,7 @@ pub mod parts;
 mod room;
 mod scratch;
 mod unit;
+mod values;
 mod verifier;
 mod weights;
 mod wires;

@@ -10,11 +10,11 @@ ghost use Rattle.flp_plan.specs.View.{publics_of};
 ghost use Rattle.flp_query.specs.Challenge.{all_weights};
 
 use crate::parts::{point, polynomial, seeds};
+use crate::values::value_at_point;
 use crate::weights::weights_for;
 use crate::wires::write_wires;
 use flp_field::{Fe, Sum};
 use flp_plan::{Plan, Reading, laws};
-use flp_poly::eval;
 
 /// What is asked of each share: the query words, and the weights of all gadgets at their points.
 #[derive(Clone, Copy)]
@@ -99,5 +99,5 @@ fn write_part(
         &mut part[..arity],
     );
     let at = point(plan, question.words, gadget);
-    part[arity] = eval(polynomial(plan, proof, gadget), at);
+    part[arity] = value_at_point(polynomial(plan, proof, gadget), at);
 }

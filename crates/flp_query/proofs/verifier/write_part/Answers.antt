@@ -15,9 +15,9 @@ write_wires-requires-clause-answers c =
 pub returns : goal.returns
 returns c joint same all =
     part-is c.args.plan.now.circuit c.args.reading.now.x.now joint c.args.proof.now c.args.question.now.words.now c.args.reading.now.answers.now c.args.reading.now.unit c.args.gadget
-    c.point-at.result c.arity-arity.result c.eval.result c.write_wires.new.out c.args.part.now c.seeds.result.now c.polynomial.result.now
+    c.point-at.result c.arity-arity.result c.value_at_point.result c.write_wires.new.out c.args.part.now c.seeds.result.now c.polynomial.result.now
     c.requires.answers c.point-at.ensures c.arity-arity.ensures.inputs c.requires.part
     (c.write_wires.auto.out ∙ length-take-le c.arity-arity.result c.args.part.now (omega (arith, c.arity-arity.ensures.inputs)))
     c.seeds.ensures.seeds c.polynomial.ensures
     (c.write_wires.ensures joint (point_of c.args.plan.now.circuit c.args.question.now.words.now c.args.gadget) same (c.weights_for.ensures.weights c.args.question.now.words.now all))
-    c.eval.ensures
+    c.value_at_point.ensures
