@@ -6,7 +6,7 @@ use Rattle.flp_plan.specs.View.{Compiled}
 use Rattle.flp_plan.specs.Forms.{IsCheckForm, form_word}
 use Rattle.flp_plan.proofs.FormLemmas.{all_at, form_found}
 use Rattle.flp_plan.proofs.TiedLemmas.{check_count-code, call_count-code, check_value}
-use Rattle.flp_plan.proofs.forms.Plan.check_form.Goals as goal
+use Rattle.flp_plan.proofs.plan.Plan.check_form.Goals as goal
 
 pub at-requires : goal.at-requires
 at-requires c =

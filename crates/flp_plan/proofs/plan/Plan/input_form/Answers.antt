@@ -7,7 +7,7 @@ use Rattle.flp_plan.specs.View.{Compiled}
 use Rattle.flp_plan.specs.Forms.{IsInputForm}
 use Rattle.flp_plan.proofs.TiedLemmas.{call_count-code, call_there}
 use Rattle.flp_plan.proofs.LentLemmas.{input_form_is, input_form_fits}
-use Rattle.flp_plan.proofs.forms.Plan.input_form.Goals as goal
+use Rattle.flp_plan.proofs.plan.Plan.input_form.Goals as goal
 
 pub bounds-as_slice-call : goal.bounds-as_slice-call
 bounds-as_slice-call c =
