@@ -38,28 +38,16 @@ use Rattle.flp_batch.proofs.FileLemmas.{size-front, behind, fault-records}
 
 -- ---- what was written
 
--- only version 1 is read, in which the bucket of each record is right
-all-placed : (party : Option ℕ) (o : Opened) (rs : List (List ℕ)) → IsOpened party o → All (HasBucket o.shape) rs
-all-placed party o rs is =
-    let other : o.shape.version ≢ 2 = λ two. let no : ⊥ = omega (arith, two, is.shape.version, is.limits.most_version) in no in
-    let some : 1 ≤ o.shape.buckets = omega (arith, is.shape.buckets, is.limits.least_buckets) in
-    placed-one o.shape rs other some
-
--- records with right buckets all stand in front of the first fault
-placed-all : (s : Shape) (rs : List (List ℕ)) → All (HasBucket s) rs → placed s rs ≡ rs
-placed-all s rs all = ap (placed s) (sym (append-nil rs)) ∙ (placed-behind s rs [] all ∙ append-nil rs)
-
 -- records up to the end of the input are those of a batch
 pub record IsWhole (party : Option ℕ) (o : Opened) (bytes : List ℕ) (rs : List (List ℕ)) : Type 0 where
   pub is_batch : IsBatch party bytes o.loaded.params (setting_of o)
   pub whole : whole_records newest_read party o.shape bytes ≡ rs
 
 pub whole-behind : (party : Option ℕ) (o : Opened) (first left : Option (List ℕ)) (opens : Opens party first left o) (rs : List (List ℕ))
-    → length rs ≡ o.header.reports → All (λ r. length r ≡ bytes_of o.shape) rs → IsWhole party o (opens.front ++ concat rs) rs
-whole-behind party o first left opens rs number sizes =
+    → length rs ≡ o.header.reports → All (λ r. length r ≡ bytes_of o.shape) rs → All (HasBucket o.shape) rs → IsWhole party o (opens.front ++ concat rs) rs
+whole-behind party o first left opens rs number sizes placed =
     let rest = concat rs in
     let bytes = opens.front ++ rest in
-    let placed = all-placed party o rs opens.is in
     let no_fault = fault_of-records newest_read party o.shape opens.front rest o.header opens.begins ∙ records_fault-none o.shape (length opens.front) o.header.reports rs sizes placed number in
     let bare : whole_records newest_read party o.shape bytes ≡ whole_records newest_read party o.shape (opens.front ++ (rest ++ [])) = ap (λ (x : List ℕ). whole_records newest_read party o.shape (opens.front ++ x)) (sym (append-nil rest)) in
     record {
@@ -68,11 +56,11 @@ whole-behind party o first left opens rs number sizes =
     }
 
 abbrev pub WritesOf-behind : (writes : (taken taken' : Option (List ℕ)) → List ℕ → Type 0) (party : Option ℕ) (o : Opened) (text : Setting → List (List ℕ) → List ℕ) (first left left' taken taken' : Option (List ℕ))
-    → Opens party first left o → TellsOf writes (bytes_of o.shape) o.header.reports (text (setting_of o)) left left' taken taken'
+    → Opens party first left o → TellsOf writes o.shape o.header.reports (text (setting_of o)) left left' taken taken'
     → WritesOf writes party text first left' taken taken'
 WritesOf-behind writes party o text first left left' taken taken' opens all =
     let rest = concat all.records in
-    let is = whole-behind party o first left opens all.records all.number all.sizes in
+    let is = whole-behind party o first left opens all.records all.number all.sizes all.in_buckets in
     record {
       bytes = opens.front ++ rest;
       params = o.loaded.params;
@@ -98,13 +86,13 @@ WritesOf-then more text text' all written = record {
 
 -- an end among the records is one among the whole records of the bytes that were read
 pub StopsEarly-behind : (party : Option ℕ) (o : Opened) (words : Setting → Wording) (first left left' taken taken' : Option (List ℕ))
-    → Opens party first left o → Stops (bytes_of o.shape) o.header.reports (words (setting_of o)).line left left' taken taken'
+    → Opens party first left o → Stops o.shape o.header.reports (words (setting_of o)).line left left' taken taken'
     → StopsEarly party (λ by. lines_of (words by).line) first left' taken taken'
 StopsEarly-behind party o words first left left' taken taken' opens stop =
     let line = (words (setting_of o)).line in
     let rs = stop.records in
     let rest = concat rs ++ stop.tail in
-    let whole = whole_records-first newest_read party o.shape opens.front stop.tail o.header rs opens.begins stop.sizes (all-placed party o rs opens.is) stop.number in
+    let whole = whole_records-first newest_read party o.shape opens.front stop.tail o.header rs opens.begins stop.sizes stop.in_buckets stop.number in
     let text = ap (lines_of line) whole ∙ lines-joined line rs _ in
     record {
       bytes = opens.front ++ rest;
@@ -122,17 +110,13 @@ pub SettlesEarly-behind : (party : Option ℕ) (o : Opened) (words : Setting →
     → Opens party first left o → Settles o.shape o.header.reports (words (setting_of o)).line left left' taken taken'
     → SettlesEarly party (λ by. lines_of (words by).line) first left' taken taken'
 SettlesEarly-behind party o words first left left' taken taken' opens stop =
-    let size = bytes_of o.shape in
     let n = o.header.reports in
     let rs = stop.records in
     let rest = concat rs ++ stop.tail in
     let others = whole_of o.shape (n - length rs) stop.tail in
     let records = whole_records newest_read party o.shape (opens.front ++ rest) in
-    let whole = whole_records-first newest_read party o.shape opens.front stop.tail o.header rs opens.begins stop.sizes (all-placed party o rs opens.is) stop.number in
-    let more : length (placed o.shape others) ≡ min (n - length rs) (length stop.tail / size) =
-    ap length (placed-all o.shape others (all-placed party o others opens.is)) ∙ length-pieces size (min (n - length rs) (length stop.tail / size)) stop.tail in
-    let few : length rs ≤ n = stop.number in
-    let number : length records ≡ min n (length rs + length stop.tail / size) = omega (arith, ap length whole ∙ length-append rs (placed o.shape others), more, few) in
+    let whole = whole_records-first newest_read party o.shape opens.front stop.tail o.header rs opens.begins stop.sizes stop.in_buckets stop.number in
+    let number : length records ≡ length rs + length (placed o.shape others) = ap length whole ∙ length-append rs (placed o.shape others) in
     let front : take (length rs) records ≡ rs = ap (take (length rs)) whole ∙ take_at rs (placed o.shape others) (length rs) refl in
     inr (record {
       bytes = opens.front ++ rest;
@@ -146,7 +130,7 @@ SettlesEarly-behind party o words first left left' taken taken' opens stop =
     })
 
 pub stops-behind : {T : Type 0} (party : Option ℕ) (o : Opened) (words : Setting → Wording) (first left left' taken taken' : Option (List ℕ)) (result : Result T EngineFault)
-    → Opens party first left o → StopsWalk result (bytes_of o.shape) o.header.reports (words (setting_of o)) left left' taken taken'
+    → Opens party first left o → StopsWalk result o.shape o.header.reports (words (setting_of o)) left left' taken taken'
     → StopsEarly party (λ by. lines_of (words by).line) first left' taken taken'
     ⊎ ((result ≡ Err Write) × StopsInText party (λ by. (words by).text) first left' taken taken')
 stops-behind party o words first left left' taken taken' result opens =

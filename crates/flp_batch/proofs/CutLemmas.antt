@@ -1,23 +1,25 @@
 -- Which lines stand written where the input has a fault among the records.
-use Rattle.std.proofs.Common.{◌≡◌, ◌≢◌, ◌⊎◌, inl, inr, Result, Ok, Err, ℕ, ◌+◌, ◌-◌, ◌*◌, ◌/◌, ◌<◌, ◌≤◌, min, max, Bool, true, false, Option, Some, None, List, [], ◌∷◌, ◌++◌, length, nat_lt, refl, sym, ap, subst, ◌∙◌, arith, append-nil, length-append}
-use Rattle.std.specs.Prelude.{IfSome, IfErr, OnErr}
+use Rattle.std.proofs.Common.{◌≡◌, ◌≢◌, ◌⊎◌, inl, inr, Result, Ok, Err, ℕ, ◌+◌, ◌-◌, ◌*◌, ◌/◌, ◌<◌, ◌≤◌, min, max, Bool, true, false, Option, Some, None, List, [], ◌∷◌, ◌++◌, length, drop, nat_lt, refl, sym, ap, subst, ◌∙◌, arith, length-append, ⊎_elim, cases_Bool}
+use Rattle.std.specs.Prelude.{All, IfSome, IfErr, OnErr, if◌then◌else◌}
 use Rattle.std.specs.Io.KnownBytes.{Consumes}
 use Rattle.std.proofs.Math.Nat.{mul-le-mul_right, div-mul-le_self}
 use Rattle.std.proofs.lemmas.Bool.{ltb-true}
-use Rattle.std.proofs.lemmas.Nat.{div_below}
+use Rattle.std.proofs.lemmas.Nat.{div_below, le-div}
 use Rattle.flp_io.specs.Reads.{ConsumesAtMost, ConsumesLess}
 use Rattle.flp_io.specs.Writes.{TakesPrefix}
 use Rattle.flp_report.specs.declared.fault.BatchFault.{BatchFault}
-use Rattle.flp_report.specs.declared.fault.BatchFault.TheVariants.{Truncated}
+use Rattle.flp_report.specs.declared.fault.BatchFault.TheVariants.{Truncated, Bucket}
 use Rattle.flp_report.specs.declared.fault.ReadFault.{ReadFault}
 use Rattle.flp_report.specs.declared.fault.ReadFault.TheVariants as read
 use Rattle.flp_report.specs.declared.shape.Shape.{Shape}
 use Rattle.flp_report.specs.Shape.{bytes_of, segment_of}
+use Rattle.flp_report.specs.Batch.{whole_of}
 use Rattle.flp_report.specs.Fault.{IfBatch, met, first_of}
 use Rattle.flp_report.specs.Pieces.{pieces, IsCut}
-use Rattle.flp_report.specs.Buckets.{bucket_fault, segment_fault, IsSegmentFault}
-use Rattle.flp_report.proofs.BucketLemmas.{placed-one, bucket_fault-behind}
-use Rattle.flp_report.proofs.KnownLemmas.{IfSome-map}
+use Rattle.flp_report.specs.Buckets.{HasBucket, bucket_fault, placed, segment_fault, IsSegmentFault}
+use Rattle.flp_report.specs.Record.{bucket_in}
+use Rattle.flp_report.proofs.BucketLemmas.{pieces-plus}
+use Rattle.flp_report.proofs.PiecesLemmas.{length-pieces, pieces-append}
 use Rattle.flp_report.proofs.ShapeLemmas.{bytes_least}
 use Rattle.flp_batch.specs.declared.fault.EngineFault.{EngineFault}
 use Rattle.flp_batch.specs.declared.fault.EngineFault.TheVariants.{Memory, Read, Write, Batch, Circuit}
@@ -43,23 +45,19 @@ settled-below size i whole some less =
     let most : whole / size ≤ i = omega (arith, below) in
     mul-le-mul_right size most
 
+-- the least of two is at most the second
+least-right : (a b : ℕ) → min a b ≤ b
+least-right a b = omega arith
+
 -- no more are settled than came
 pub settled-most : (s : Shape) (whole : ℕ) → settled s whole ≤ whole
 settled-most s whole = div-mul-le_self whole (segment_of s)
 
--- whole segments of `size` records, and fewer than one more
-few-behind : (size n i count more : ℕ) → count ≤ size → more < count → min n (i * size + more) < (i + 1) * size
-few-behind size n i count more few less =
-    let one : (i + 1) * size ≡ i * size + size = omega arith in
-    omega (arith, few, less, one)
-
--- behind whole segments and fewer bytes than one more has
-pub settled-cut : (s : Shape) (n i count more : ℕ) → count ≤ segment_of s → more < count * bytes_of s
-    → settled s (min n (i * segment_of s + more / bytes_of s)) ≤ i * segment_of s
-settled-cut s n i count more few less =
-    let some : 0 < bytes_of s = omega (arith, bytes_least s) in
-    let below = div_below more (bytes_of s) count some less in
-    settled-below (segment_of s) i (min n (i * segment_of s + more / bytes_of s)) (segment_least s) (few-behind (segment_of s) n i count (more / bytes_of s) few below)
+-- behind whole segments and fewer records than one more has
+pub settled-cut : (s : Shape) (i count more : ℕ) → count ≤ segment_of s → more < count → settled s (i * segment_of s + more) ≤ i * segment_of s
+settled-cut s i count more few less =
+    let one : (i + 1) * segment_of s ≡ i * segment_of s + segment_of s = omega arith in
+    settled-below (segment_of s) i (i * segment_of s + more) (segment_least s) (omega (arith, few, less, one))
 
 -- how many records the next segment has
 pub record NextFits (size n i count : ℕ) : Type 0 where
@@ -88,24 +86,87 @@ last-met : (test : Bool) (fault b : BatchFault) → first_of (None ∷ met test 
 last-met true fault b is = refl
 last-met false fault b is = let no : ⊥ = cc in absurd no
 
--- in version 1 the fault of a segment is that bytes are missing
-segment-missing : (s : Shape) (place before count whole : ℕ) (rest : List ℕ) (b : BatchFault) → s.version ≢ 2 → 1 ≤ s.buckets
-    → segment_fault s place before count whole rest ≡ Some b → length rest < count * bytes_of s
-segment-missing s place before count whole rest b one some is =
-    let came = pieces (bytes_of s) (min count (length rest / bytes_of s)) rest in
-    let right : bucket_fault s place came ≡ None =
-    ap (bucket_fault s place) (sym (append-nil came)) ∙ bucket_fault-behind s place came [] (placed-one s came one some) in
-    let short = met (nat_lt (length rest) (count * bytes_of s)) (Truncated (before + length rest) whole) in
-    let last : first_of (None ∷ short ∷ []) ≡ Some b = ap (λ (f : Option BatchFault). first_of (f ∷ short ∷ [])) (sym right) ∙ is in
-    ltb-true (length rest) (count * bytes_of s) (last-met (nat_lt (length rest) (count * bytes_of s)) (Truncated (before + length rest) whole) b last)
+-- of records in front of a bad one fewer are right than there are
+placed-few : (s : Shape) (place : ℕ) (records more : List (List ℕ)) (b : BatchFault) → bucket_fault s place (records ++ more) ≡ Some b → length (placed s records) < length (records ++ more)
+placed-few s place [] [] b is = let no : ⊥ = cc in absurd no
+placed-few s place [] (given ∷ more) b is = omega arith
+placed-few s place (given ∷ records) more b is =
+    ⊎_elim
+    (λ (good : nat_lt (bucket_in s given) s.buckets ≡ true).
+    let next : bucket_fault s (suc place) (records ++ more) ≡ Some b =
+    sym (ap (λ (t : Bool). if t then bucket_fault s (suc place) (records ++ more) else Some (Bucket place (bucket_in s given))) good) ∙ is in
+    let rest = placed-few s (suc place) records more b next in
+    let one : length (placed s (given ∷ records)) ≡ suc (length (placed s records)) =
+    ap (λ (t : Bool). length (if t then given ∷ placed s records else [])) good in
+    omega (arith, rest, one))
+    (λ (bad : nat_lt (bucket_in s given) s.buckets ≡ false).
+    let none : length (placed s (given ∷ records)) ≡ 0 = ap (λ (t : Bool). length (if t then given ∷ placed s records else [])) bad in
+    omega (arith, none))
+    (cases_Bool (nat_lt (bucket_in s given) s.buckets))
 
--- where fewer bytes are left than are wanted, fewer are read
-few-missing : (limit : ℕ) (left left' : Option (List ℕ)) → 0 < limit → ConsumesAtMost limit left left' → IfSome left (λ rest. length rest < limit) → ConsumesLess limit left left'
-few-missing limit None left' some few short = record { bytes = []; less = some; gone = tt }
-few-missing limit (Some rest) None some few short = absurd few.gone
-few-missing limit (Some rest) (Some behind) some few short =
-    let long : length rest ≡ length few.bytes + length behind = ap length few.gone ∙ length-append few.bytes behind in
-    record { bytes = few.bytes; less = omega (arith, long, short); gone = few.gone }
+-- and never more
+placed-most : (s : Shape) (records : List (List ℕ)) → length (placed s records) ≤ length records
+placed-most s [] = omega arith
+placed-most s (given ∷ records) =
+    let rest = placed-most s records in
+    ⊎_elim
+    (λ (good : nat_lt (bucket_in s given) s.buckets ≡ true).
+    let one : length (placed s (given ∷ records)) ≡ suc (length (placed s records)) =
+    ap (λ (t : Bool). length (if t then given ∷ placed s records else [])) good in
+    omega (arith, rest, one))
+    (λ (bad : nat_lt (bucket_in s given) s.buckets ≡ false).
+    let none : length (placed s (given ∷ records)) ≡ 0 = ap (λ (t : Bool). length (if t then given ∷ placed s records else [])) bad in
+    omega (arith, none))
+    (cases_Bool (nat_lt (bucket_in s given) s.buckets))
+
+-- so many of the records that are whole in some bytes
+abbrev pub right_of : Shape → (reports : ℕ) → (bytes : List ℕ) → ℕ
+right_of s reports bytes = length (placed s (whole_of s reports bytes))
+
+-- fewer than a segment has, in fewer bytes
+pub right-missing : (s : Shape) (reports count : ℕ) (bytes : List ℕ) → length bytes < count * bytes_of s → right_of s reports bytes < count
+right-missing s reports count bytes less =
+    let size = bytes_of s in
+    let some : 0 < size = omega (arith, bytes_least s) in
+    let below = div_below (length bytes) size count some less in
+    let most = placed-most s (whole_of s reports bytes) in
+    let long = length-pieces size (min reports (length bytes / size)) bytes in
+    omega (arith, below, most, long)
+
+-- and in the bytes of a segment that has a bad one
+right-bad : (s : Shape) (place reports count : ℕ) (front behind : List ℕ) (b : BatchFault) → length front ≤ count * bytes_of s
+    → bucket_fault s place (whole_of s count (front ++ behind)) ≡ Some b → right_of s reports front < count
+right-bad s place reports count front behind b few is =
+    let size = bytes_of s in
+    let some : 0 < size = omega (arith, bytes_least s) in
+    let rest = front ++ behind in
+    let own = min reports (length front / size) in
+    let all = min count (length rest / size) in
+    let long = length-append front behind in
+    let over : length front < (count + 1) * size = omega (arith, few, some) in
+    let most = div_below (length front) size (count + 1) some over in
+    let grown : length front / size ≤ length rest / size = le-div (length front / size) (length rest) size some (omega (arith, long, div-mul-le_self (length front) size)) in
+    let parts : all ≡ own + (all - own) = omega (arith, most, grown) in
+    let fits : own * size ≤ length front = omega (arith, mul-le-mul_right size (least-right reports (length front / size)), div-mul-le_self (length front) size) in
+    let first : pieces size own rest ≡ pieces size own front = pieces-append size own front behind fits in
+    let others = pieces size (all - own) (drop (own * size) rest) in
+    let split : pieces size all rest ≡ pieces size own front ++ others =
+    ap (λ (n : ℕ). pieces size n rest) parts ∙ (pieces-plus size own (all - own) rest ∙ ap (λ (l : List (List ℕ)). l ++ others) first) in
+    let found = placed-few s place (pieces size own front) others b (sym (ap (bucket_fault s place) split) ∙ is) in
+    let number = sym (ap length split) ∙ length-pieces size all rest in
+    omega (arith, found, number)
+
+-- where the next segment has a fault, fewer records of it than it has are right among the bytes that were taken
+few-right : (s : Shape) (place before reports count whole : ℕ) (front behind : List ℕ) (b : BatchFault) (found : Option BatchFault) → length front ≤ count * bytes_of s
+    → bucket_fault s place (whole_of s count (front ++ behind)) ≡ found
+    → segment_fault s place before count whole (front ++ behind) ≡ Some b → right_of s reports front < count
+few-right s place before reports count whole front behind b (Some fault) few same is = right-bad s place reports count front behind fault few same
+few-right s place before reports count whole front behind b None few same is =
+    let rest = front ++ behind in
+    let short = met (nat_lt (length rest) (count * bytes_of s)) (Truncated (before + length rest) whole) in
+    let last : first_of (None ∷ short ∷ []) ≡ Some b = ap (λ (f : Option BatchFault). first_of (f ∷ short ∷ [])) (sym same) ∙ is in
+    let less = ltb-true (length rest) (count * bytes_of s) (last-met (nat_lt (length rest) (count * bytes_of s)) (Truncated (before + length rest) whole) b last) in
+    right-missing s reports count front (omega (arith, less, length-append front behind))
 
 -- ---- faults
 
@@ -133,27 +194,46 @@ ReadFails shape count place before whole f left left' =
     × IfBatch f (λ b. IfSome left (λ rest. segment_fault shape place before count whole rest ≡ Some b))
     × IfBatch f (IsSegmentFault shape place before count whole)
 
--- fewer bytes came than the segment has
-pub few-read : (s : Shape) (count place before whole : ℕ) (f : ReadFault) (left left' : Option (List ℕ))
-    → s.version ≢ 2 → 1 ≤ s.buckets → 0 < count → ReadFails s count place before whole f left left' → IsOfInput (fault_from f) → ConsumesLess (count * bytes_of s) left left'
-few-read s count place before whole read.Memory left left' one some more fails input = absurd input
-few-read s count place before whole read.Failed left left' one some more fails input = fails.1 refl
-few-read s count place before whole (read.Batch b) left left' one some more fails input =
-    let size = bytes_of s in
-    let least = bytes_least s in
-    let least_one : 1 * size ≤ count * size = mul-le-mul_right size more in
-    let short = IfSome-map (λ rest. segment_fault s place before count whole rest ≡ Some b) (λ rest. length rest < count * size) left (λ rest found. segment-missing s place before count whole rest b one some found) fails.2 in
-    few-missing (count * size) left left' (omega (arith, least, least_one)) fails.0 short
+-- bytes were taken, among whose records fewer than a segment has are right
+pub record TakesRight (s : Shape) (reports count : ℕ) (left left' : Option (List ℕ)) : Type 0 where
+  pub bytes : List ℕ
+  pub gone : Consumes left left' bytes
+  pub less : right_of s reports bytes < count
+
+-- where the source tells no bytes, none were taken
+takes-none : (s : Shape) (reports count : ℕ) → 0 < count → right_of s reports [] < count
+takes-none s reports count some =
+    let least : 1 * bytes_of s ≤ count * bytes_of s = mul-le-mul_right (bytes_of s) some in
+    right-missing s reports count [] (omega (arith, least, bytes_least s))
+
+-- so it is where the reading of a segment failed
+pub few-read : (s : Shape) (reports count place before whole : ℕ) (f : ReadFault) (left left' : Option (List ℕ))
+    → 0 < count → ReadFails s count place before whole f left left' → IsOfInput (fault_from f) → TakesRight s reports count left left'
+few-read s reports count place before whole read.Memory left left' more fails input = absurd input
+few-read s reports count place before whole read.Failed left left' more fails input =
+    let less = fails.1 refl in
+    record { bytes = less.bytes; gone = less.gone; less = right-missing s reports count less.bytes less.less }
+few-read s reports count place before whole (read.Batch b) None left' more fails input =
+    record { bytes = []; gone = tt; less = takes-none s reports count more }
+few-read s reports count place before whole (read.Batch b) (Some rest) None more fails input = absurd fails.0.gone
+few-read s reports count place before whole (read.Batch b) (Some rest) (Some behind) more fails input =
+    let few = fails.0 in
+    record {
+      bytes = few.bytes;
+      gone = few.gone;
+      less = few-right s place before reports count whole few.bytes behind b _ few.few refl
+          (sym (ap (segment_fault s place before count whole) few.gone) ∙ fails.2);
+    }
 
 -- ---- lines
 
 -- an end among the lines of a segment, which is no fault of the input
 pub write-breaks : (s : Shape) (n k count : ℕ) (line : List (List ℕ) → List ℕ → List ℕ) (follows : List (List ℕ) → Type 0) (left left' left'' taken taken' taken'' : Option (List ℕ)) (bytes : List ℕ) (more : List (List ℕ)) (fault : EngineFault)
-    → Judges (bytes_of s) k line follows left left' taken taken' → k + count ≤ n → IsCut (bytes_of s) count bytes more → Consumes left' left'' bytes → (IsOfInput fault → ⊥)
+    → Judges s k line follows left left' taken taken' → k + count ≤ n → IsCut (bytes_of s) count bytes more → All (HasBucket s) more → Consumes left' left'' bytes → (IsOfInput fault → ⊥)
     → ((earlier : List (List ℕ)) → follows earlier → TakesPrefix taken' taken'' (lines_from line earlier more)) → Breaks fault s n line left left'' taken taken''
-write-breaks s n k count line follows left left' left'' taken taken' taken'' bytes more fault all fits cut gone other front = record {
+write-breaks s n k count line follows left left' left'' taken taken' taken'' bytes more fault all fits cut right gone other front = record {
   behind = front-input fault other;
-  stops = Stops-within (bytes_of s) k count n line follows left left' left'' taken taken' taken'' bytes more all fits cut gone front;
+  stops = Stops-within s k count n line follows left left' left'' taken taken' taken'' bytes more all fits cut right gone front;
   settles = λ input. absurd (other input);
 }
 
@@ -161,7 +241,7 @@ write-breaks s n k count line follows left left' left'' taken taken' taken'' byt
 pub memory-breaks : {T : Type 0} (result : Result T EngineFault) (s : Shape) (n : ℕ) (line : List (List ℕ) → List ℕ → List ℕ) (left taken : Option (List ℕ))
     → result ≡ Err Memory → IfErr result (λ fault. Breaks fault s n line left left taken taken)
 memory-breaks {T = T} result s n line left taken is =
-    let none : Breaks Memory s n line left left taken taken = record { behind = λ front. front; stops = Stops-none (bytes_of s) n line left taken; settles = λ input. absurd input } in
+    let none : Breaks Memory s n line left left taken taken = record { behind = λ front. front; stops = Stops-none s n line left taken; settles = λ input. absurd input } in
     let here : IfErr {T = T} (Err Memory) (λ fault. Breaks fault s n line left left taken taken) = none in
     subst (λ (r : Result T EngineFault). IfErr r (λ fault. Breaks fault s n line left left taken taken)) (sym is) here
 

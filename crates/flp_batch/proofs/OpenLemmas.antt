@@ -83,7 +83,7 @@ Opens-from party left mid left' front o gone head limits text fits small read co
       front = front ++ claims;
       read = Consumes-trans left mid left' front claims gone read;
       begins = IsFront-read newest_read party o.shape front claims o.header head small size (ap fall_in (sym same) ∙ rising);
-      is = record { limits = limits; text = text; shape = fits };
+      is = record { limits = limits; text = text; shape = fits; fits = small };
       claims = bare ∙ claims_of-more newest_read party front claims [] o.header head size ∙ sym same;
     }
 

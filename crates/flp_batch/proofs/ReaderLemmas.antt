@@ -23,8 +23,6 @@ size-ready reader header shape ready =
 pub among-none : {S : Type 0} (reader : BatchReader S) (header : Header) (shape : Shape) → IsAtRecords reader header shape → IsAmong reader header shape 0
 among-none reader header shape ready = record {
   shaped = ready.shaped;
-  one = ready.one;
-  bucket = ready.bucket;
   within = omega arith;
   segments = λ below. (0, omega arith);
   given = ready.given;

@@ -18,7 +18,7 @@ pub data Format : Type 0 where
 
 -- the newest version of a batch that is read
 abbrev pub newest_read : ℕ
-newest_read = 1
+newest_read = 2
 
 -- where its text begins
 abbrev pub circuit_start : Format → (bytes : List ℕ) → ℕ

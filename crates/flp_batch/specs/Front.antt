@@ -15,11 +15,9 @@ claims_start header = head_size header.version + length header.text
 abbrev pub records_begin : Header → ℕ
 records_begin header = claims_start header + 16 * header.claims
 
--- the reader stands behind the old claims of this header, and knows this shape, which is one of version 1
+-- the reader stands behind the old claims of this header, and knows this shape
 pub record IsAtRecords {S : Type 0} (reader : BatchReader S) (header : Header) (shape : Shape) : Type 0 where
   pub shaped : IsShaped reader
-  pub one : shape.version ≢ 2
-  pub bucket : 1 ≤ shape.buckets
   pub place : place_of reader ≡ records_begin header
   pub given : shape_given reader ≡ shape
   pub claims : claims_left reader ≡ 0

@@ -17,11 +17,12 @@ use Rattle.flp_batch.specs.Setting.{Setting, IsShapeBehind}
 abbrev pub setting_of : Opened → Setting
 setting_of o = record { params = o.loaded.params; circuit = o.loaded.plan.circuit; shape = o.shape; claims = nonces_in o.claims }
 
--- the parts agree: a head within its limits, the circuit of its text, and the shape that both give
+-- the parts agree: a head within its limits, the circuit of its text, the shape that both give, and no size above its limit
 pub record IsOpened (party : Option ℕ) (o : Opened) : Type 0 where
   pub limits : IsInLimits newest_read party o.header
   pub text : IsLoaded o.header.text o.loaded.params o.loaded.plan.circuit
   pub shape : IsShapeBehind o.header o.loaded.plan.circuit o.shape
+  pub fits : large_fault o.shape o.header.claims ≡ None
 
 -- all that stands in front of the records was read, and this is what it says
 pub record Opens (party : Option ℕ) (left left' : Option (List ℕ)) (o : Opened) : Type 0 where

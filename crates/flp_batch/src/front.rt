@@ -23,7 +23,7 @@ use flp_report::{BatchReader, Header, Nonces, ReadFault, Shape};
 use std::alloc::Global;
 
 /// The newest version of a batch that is read.
-const NEWEST: u32 = 1;
+const NEWEST: u32 = 2;
 
 /// What stands in front of the records of a batch, with the circuit of its text and the shape that this
 /// gives to a record.
@@ -67,8 +67,6 @@ fn read_claims<S: Source>(
     requires proofs { shape.proofs ≡ proofs_given reader.old }
     requires version { shape.version ≡ version_given reader.old }
     requires buckets { shape.buckets ≡ buckets_given reader.old }
-    requires one { shape.version ≢ 2 }
-    requires bucket { 1 ≤ shape.buckets }
     requires place { place_of reader.old ≡ claims_start header.now }
     requires text { length header.now.text ≤ 65536 }
     requires left { (claims_left reader.old ≡ header.now.claims) × (reports_left reader.old ≡ header.now.reports)

@@ -2,7 +2,6 @@
 ghost use Rattle.std.specs.Prelude.{◌≡◌, ◌+◌, ◌^◌, ◌<◌, ◌≤◌, ℕ, List, [], ◌∷◌, ◌++◌, Option, OnOk, OnErr, IfErr};
 ghost use Rattle.flp_report.specs.declared.shape.Shape.{Shape as RecordShape};
 ghost use Rattle.flp_report.specs.Record.{record_of, shape_of};
-ghost use Rattle.flp_report.specs.Shape.{bytes_of};
 ghost use Rattle.flp_io.specs.Reads.{ConsumesAtMost};
 ghost use Rattle.flp_report.specs.Reader.{source_of, SameLoan};
 ghost use Rattle.flp_batch.specs.Ends.{Ends};
@@ -83,9 +82,9 @@ pub trait Task {
         requires readable { S.ready (source_of reader.old) }
         requires writable { K.ready output.old }
         ensures same { SameLoan reader.old reader.new }
-        ensures done { OnOk result (Tells (bytes_of opened.now.shape) opened.now.header.reports (words self.now (setting_of opened.now)).text
+        ensures done { OnOk result (Tells opened.now.shape opened.now.header.reports (words self.now (setting_of opened.now)).text
             (S.left (source_of reader.old)) (S.left (source_of reader.new)) (K.taken output.old) (K.taken output.new)) }
-        ensures stopped { OnErr result (StopsWalk result (bytes_of opened.now.shape) opened.now.header.reports (words self.now (setting_of opened.now))
+        ensures stopped { OnErr result (StopsWalk result opened.now.shape opened.now.header.reports (words self.now (setting_of opened.now))
             (S.left (source_of reader.old)) (S.left (source_of reader.new)) (K.taken output.old) (K.taken output.new)) }
         ensures settled { IfErr result (λ fault. IsOfInput fault
             → Settles opened.now.shape opened.now.header.reports (words self.now (setting_of opened.now)).line

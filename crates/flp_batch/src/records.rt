@@ -4,7 +4,6 @@ ghost use Rattle.std.specs.Io.KnownBytes.{Appends, Keeps, IsAtEnd};
 ghost use Rattle.flp_io.specs.Faults.{Rose, Uses};
 ghost use Rattle.flp_io.specs.Reads.{ConsumesAtMost};
 ghost use Rattle.flp_io.specs.Writes.{TakesPrefix};
-ghost use Rattle.flp_report.specs.Shape.{bytes_of};
 ghost use Rattle.flp_report.specs.Segment.{shape_in, used_in, record_in, records_in};
 ghost use Rattle.flp_report.specs.Reader.{source_of, SameLoan};
 ghost use Rattle.flp_batch.specs.Ends.{Ends};
@@ -100,7 +99,7 @@ fn judge_records<S: Source, K: Sink, J: Judge>(
     requires streams { S.ready (source_of reader.old) × K.ready output.old }
     ensures same { SameLoan reader.old reader.new }
     ensures wording { J.wording judge.new ≡ J.wording judge.old }
-    ensures done { OnOk result (Judges (bytes_of opened.now.shape) opened.now.header.reports (J.wording judge.old).line (J.follows judge.new)
+    ensures done { OnOk result (Judges opened.now.shape opened.now.header.reports (J.wording judge.old).line (J.follows judge.new)
         (S.left (source_of reader.old)) (S.left (source_of reader.new)) (K.taken output.old) (K.taken output.new)) }
     ensures ended { OnOk result (IsAtEnd (S.left (source_of reader.new)) × K.ready output.new) }
     ensures breaks { IfErr result (λ fault. Breaks fault opened.now.shape opened.now.header.reports (J.wording judge.old).line
@@ -172,9 +171,9 @@ pub fn walk<S: Source, K: Sink, J: Judge>(
     requires readable { S.ready (source_of reader.old) }
     requires writable { K.ready output.old }
     ensures same { SameLoan reader.old reader.new }
-    ensures done { (words : Wording) → IfOk judge (λ j. J.wording j ≡ words) → OnOk result (Tells (bytes_of opened.now.shape) opened.now.header.reports words.text
+    ensures done { (words : Wording) → IfOk judge (λ j. J.wording j ≡ words) → OnOk result (Tells opened.now.shape opened.now.header.reports words.text
         (S.left (source_of reader.old)) (S.left (source_of reader.new)) (K.taken output.old) (K.taken output.new)) }
-    ensures stopped { (words : Wording) → IfOk judge (λ j. J.wording j ≡ words) → OnErr result (StopsWalk result (bytes_of opened.now.shape) opened.now.header.reports words
+    ensures stopped { (words : Wording) → IfOk judge (λ j. J.wording j ≡ words) → OnErr result (StopsWalk result opened.now.shape opened.now.header.reports words
         (S.left (source_of reader.old)) (S.left (source_of reader.new)) (K.taken output.old) (K.taken output.new)) }
     ensures settled { (words : Wording) → IfOk judge (λ j. J.wording j ≡ words) → IfErr result (λ fault. IsOfInput fault
         → Settles opened.now.shape opened.now.header.reports words.line

@@ -34,8 +34,6 @@ returns-in-Ok-clause-among g c =
       next.some,
       record {
         shaped = read.shaped;
-        one = before.one;
-        bucket = before.bucket;
         within = next.fits;
         segments = segments-next (segment_of shape) n done count is c.requires.left before.segments;
         given = read.shape ∙ before.given;
@@ -65,5 +63,5 @@ returns-in-Err-clause-fails g c =
     let number : reports_read reader ≡ done = omega (arith, before.all, before.left) in
     subst (Fails c.args.header.now c.args.shape.now done (g.S.Source.left (source_of reader)) (g.S.Source.left (source_of c.segment-2.new.self))) (sym c.from.ensures)
     (segment-fails (shape_given reader) c.args.shape.now c.args.header.now done count (reports_read reader) (place_of reader) (size_of_file reader) c.in-Err.fault _ _
-    before.given before.one before.bucket (before.segments c.requires.left) next number before.place before.size
+    before.given (before.segments c.requires.left) next number before.place before.size
     (read.source.bytes, λ failed. read.lost (ap Err failed), read.fault, read.kind))

@@ -1,6 +1,5 @@
 use Rattle.std.proofs.Common.{◌≡◌, ◌∙◌, ℕ, Err, min, arith, rules, ap, refl}
 use Rattle.std.proofs.lemmas.Result.{err_from_is_err_and}
-use Rattle.flp_report.specs.Shape.{bytes_of}
 use Rattle.flp_report.specs.Segment.{held_in, records_in}
 use Rattle.flp_report.specs.Reader.{source_of}
 use Rattle.flp_batch.specs.Lines.{Wording}
@@ -37,7 +36,7 @@ loop-judged-init g c =
     record {
       number = refl;
       among = among-none c.args.reader.now o.header o.shape c.requires.ready;
-      all = Judges-none (bytes_of o.shape) _ (g.J.Judge.follows c.args.judge.now) (g.S.Source.left (source_of c.args.reader.now)) (g.K.Sink.taken c.args.output.now) c.requires.new.fresh;
+      all = Judges-none o.shape _ (g.J.Judge.follows c.args.judge.now) (g.S.Source.left (source_of c.args.reader.now)) (g.K.Sink.taken c.args.output.now) c.requires.new.fresh;
       same = refl;
       room_shape = c.in_ok-room.ensures.shape;
       room = c.in_ok-room.ensures.room ∙ (first ∙ ap (λ (m : ℕ). min m o.header.reports) c.segment.ensures);
@@ -61,7 +60,7 @@ loop-judged-preserved g c =
     record {
       number = before.number;
       among = read.among.1;
-      all = Judges-more (bytes_of o.shape) c.loop-judged.judged c.in-Ok.count _ _ (g.J.Judge.follows c.judge_segment.new.judge) _ _ _ _ _ _ (held_in room) (records_in room) before.all read.holds.1 read.records
+      all = Judges-more o.shape c.loop-judged.judged c.in-Ok.count _ _ (g.J.Judge.follows c.judge_segment.new.judge) _ _ _ _ _ _ (held_in room) (records_in room) before.all read.holds.1 read.buckets read.records
           (judged-same _ _ _ (g.J.Judge.follows c.judge_segment.new.judge) (records_in room) _ _ _ (ap (λ (w : Wording). w.line) before.wording) before.held wrote.judged);
       same = read.same ∙ before.same;
       room_shape = read.room.0 ∙ before.room_shape;
@@ -96,7 +95,7 @@ returns-in-Err-judge_segment-clause-breaks g c =
     let o = c.args.opened.now in
     let room = c.read_segment.new.room in
     write-breaks o.shape o.header.reports c.loop-judged.judged c.in-Ok.count _ _ _ _ _ _ _ _ (held_in room) (records_in room) c.in-Err-judge_segment.fault
-    before.all read.among.1.within read.holds.1 read.records wrote.cause
+    before.all read.among.1.within read.holds.1 read.buckets read.records wrote.cause
     (front-same _ _ _ (records_in room) _ _ _ (ap (λ (w : Wording). w.line) before.wording) before.held wrote.front)
 
 pub returns-in-Err-judge_segment-clause-ends : goal.returns-in-Err-judge_segment-clause-ends

@@ -1,5 +1,5 @@
 use Rattle.std.proofs.Common.{◌≡◌, ◌-◌, ◌≤◌, [], min}
-use Rattle.flp_report.specs.Shape.{bytes_of, segment_of}
+use Rattle.flp_report.specs.Shape.{segment_of}
 use Rattle.flp_report.specs.Segment.{shape_in, room_of}
 use Rattle.flp_report.specs.Reader.{source_of, SameLoan}
 use Rattle.flp_batch.specs.Among.{IsAmong}
@@ -10,7 +10,7 @@ abbrev pub invariant-loop-judged : goal.invariant-loop-judged
 invariant-loop-judged g l = record {
   number : l.reports ≡ l.opened.header.reports;
   among : IsAmong l.reader l.opened.header l.opened.shape l.judged;
-  all : Judges (bytes_of l.opened.shape) l.judged (g.J.Judge.wording l.initial.judge).line (g.J.Judge.follows l.judge) (g.S.Source.left (source_of l.initial.reader)) (g.S.Source.left (source_of l.reader)) (g.K.Sink.taken l.initial.output) (g.K.Sink.taken l.output);
+  all : Judges l.opened.shape l.judged (g.J.Judge.wording l.initial.judge).line (g.J.Judge.follows l.judge) (g.S.Source.left (source_of l.initial.reader)) (g.S.Source.left (source_of l.reader)) (g.K.Sink.taken l.initial.output) (g.K.Sink.taken l.output);
   same : SameLoan l.initial.reader l.reader;
   room_shape : shape_in l.room ≡ l.opened.shape;
   room : room_of l.room ≡ min (segment_of l.opened.shape) l.opened.header.reports;

@@ -1,6 +1,5 @@
 use Rattle.std.proofs.Common.{◌∙◌, ◌++◌, ◌≡◌, inl, subst}
 use Rattle.std.proofs.lemmas.Result.{IfOk-at_ok}
-use Rattle.flp_report.specs.Shape.{bytes_of}
 use Rattle.flp_report.specs.Reader.{source_of}
 use Rattle.flp_batch.specs.Lines.{Wording, lines_of}
 use Rattle.flp_batch.specs.Walk.{Judges, Stops, Settles}
@@ -17,7 +16,7 @@ returns-in-Err-clause-settled g c = λ words is input. absurd input
 pub returns-in-Err-judge_records-clause-stopped : goal.returns-in-Err-judge_records-clause-stopped
 returns-in-Err-judge_records-clause-stopped g c = λ words is.
     let own = IfOk-at_ok (λ j. g.J.Judge.wording j ≡ words) c.in-Ok.is is in
-    inl (subst (λ (w : Wording). Stops (bytes_of c.args.opened.now.shape) c.args.opened.now.header.reports w.line (g.S.Source.left (source_of c.args.reader.now)) (g.S.Source.left (source_of c.judge_records.new.reader)) (g.K.Sink.taken c.args.output.now) (g.K.Sink.taken c.judge_records.new.output)) own c.in-Err-judge_records.ensures.breaks.stops)
+    inl (subst (λ (w : Wording). Stops c.args.opened.now.shape c.args.opened.now.header.reports w.line (g.S.Source.left (source_of c.args.reader.now)) (g.S.Source.left (source_of c.judge_records.new.reader)) (g.K.Sink.taken c.args.output.now) (g.K.Sink.taken c.judge_records.new.output)) own c.in-Err-judge_records.ensures.breaks.stops)
 
 pub returns-in-Err-judge_records-clause-settled : goal.returns-in-Err-judge_records-clause-settled
 returns-in-Err-judge_records-clause-settled g c = λ words is input.
@@ -28,8 +27,8 @@ pub returns-clause-done : goal.returns-clause-done
 returns-clause-done g c = λ words is.
     let own = IfOk-at_ok (λ j. g.J.Judge.wording j ≡ words) c.in-Ok.is is in
     let follows = g.J.Judge.follows c.judge_records.new.judge in
-    let all = subst (λ (w : Wording). Judges (bytes_of c.args.opened.now.shape) c.args.opened.now.header.reports w.line follows (g.S.Source.left (source_of c.args.reader.now)) (g.S.Source.left (source_of c.judge_records.new.reader)) (g.K.Sink.taken c.args.output.now) (g.K.Sink.taken c.judge_records.new.output)) own c.in_default.ensures.done in
-    tells-ending (bytes_of c.args.opened.now.shape) c.args.opened.now.header.reports words c.write_ending.new.ending.items follows _ _ _ _ _ c.write_ending.result all c.in_default.ensures.ended.0
+    let all = subst (λ (w : Wording). Judges c.args.opened.now.shape c.args.opened.now.header.reports w.line follows (g.S.Source.left (source_of c.args.reader.now)) (g.S.Source.left (source_of c.judge_records.new.reader)) (g.K.Sink.taken c.args.output.now) (g.K.Sink.taken c.judge_records.new.output)) own c.in_default.ensures.done in
+    tells-ending c.args.opened.now.shape c.args.opened.now.header.reports words c.write_ending.new.ending.items follows _ _ _ _ _ c.write_ending.result all c.in_default.ensures.ended.0
     (λ other records judged. subst (λ (w : Wording). lines_of w.line records ++ c.write_ending.new.ending.items ≡ w.text records) (c.judge_records.ensures.wording ∙ own) (c.write_ending.ensures.text other records judged))
     c.write_ending.ensures.written
 
@@ -37,8 +36,8 @@ pub returns-clause-stopped : goal.returns-clause-stopped
 returns-clause-stopped g c = λ words is.
     let own = IfOk-at_ok (λ j. g.J.Judge.wording j ≡ words) c.in-Ok.is is in
     let follows = g.J.Judge.follows c.judge_records.new.judge in
-    let all = subst (λ (w : Wording). Judges (bytes_of c.args.opened.now.shape) c.args.opened.now.header.reports w.line follows (g.S.Source.left (source_of c.args.reader.now)) (g.S.Source.left (source_of c.judge_records.new.reader)) (g.K.Sink.taken c.args.output.now) (g.K.Sink.taken c.judge_records.new.output)) own c.in_default.ensures.done in
-    stops-ending (bytes_of c.args.opened.now.shape) c.args.opened.now.header.reports words c.write_ending.new.ending.items follows _ _ _ _ _ _ c.write_ending.result all c.in_default.ensures.ended.0
+    let all = subst (λ (w : Wording). Judges c.args.opened.now.shape c.args.opened.now.header.reports w.line follows (g.S.Source.left (source_of c.args.reader.now)) (g.S.Source.left (source_of c.judge_records.new.reader)) (g.K.Sink.taken c.args.output.now) (g.K.Sink.taken c.judge_records.new.output)) own c.in_default.ensures.done in
+    stops-ending c.args.opened.now.shape c.args.opened.now.header.reports words c.write_ending.new.ending.items follows _ _ _ _ _ _ c.write_ending.result all c.in_default.ensures.ended.0
     (λ other records judged. subst (λ (w : Wording). lines_of w.line records ++ c.write_ending.new.ending.items ≡ w.text records) (c.judge_records.ensures.wording ∙ own) (c.write_ending.ensures.text other records judged))
     c.write_ending.ensures.front c.write_ending.ensures.kept c.write_ending.ensures.cause
 
