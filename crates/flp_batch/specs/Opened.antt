@@ -1,8 +1,8 @@
 -- What opening a batch gave, and where the reader stands then.
-use Rattle.std.specs.Prelude.{ℕ, ◌≡◌, ◌*◌, List, Option}
+use Rattle.std.specs.Prelude.{ℕ, ◌≡◌, ◌*◌, List, Option, None}
 use Rattle.std.specs.Io.KnownBytes.{Consumes}
 use Rattle.flp_report.specs.Reader.{BatchReader}
-use Rattle.flp_report.specs.Batch.{IsFront, IsInLimits, claims_of}
+use Rattle.flp_report.specs.Batch.{IsFront, IsInLimits, claims_of, large_fault}
 use Rattle.flp_report.specs.Nonces.{nonces_in}
 use Rattle.flp_report.specs.Shape.{bytes_of}
 use Rattle.flp_load.specs.Loaded.{IsLoaded}

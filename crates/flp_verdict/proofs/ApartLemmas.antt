@@ -13,14 +13,14 @@ use Rattle.flp_field.proofs.ListSums.{length-sum_of_lists, get_or-sum_of_lists, 
 use Rattle.flp_syntax.specs.Tree.{Program}
 use Rattle.flp_meaning.specs.Gadgets.{out_count}
 use Rattle.flp_report.specs.declared.shape.Shape.{Shape}
-use Rattle.flp_report.specs.Record.{nonce_in}
+use Rattle.flp_report.specs.Record.{nonce_in, bucket_in}
 use Rattle.flp_policy.specs.Verdicts.{is_accepted}
 use Rattle.flp_policy.specs.declared.verdict.Verdict.TheVariants.{Replayed}
 use Rattle.flp_worker.specs.Verdict.{verdict_of, outs_in}
 use Rattle.flp_known.specs.Among.{is_among}
 use Rattle.flp_known.proofs.AmongLemmas.{same_nonce}
 use Rattle.flp_verdict.specs.Verdicts.{Judged, known_behind, judged_after, judged_from, judged, accepted_in}
-use Rattle.flp_verdict.specs.Totals.{count_of, aggregate_of}
+use Rattle.flp_verdict.specs.Totals.{count_of, aggregate_of, of_bucket}
 use Rattle.flp_verdict.specs.Apart.{claims_of_part, records_of_part, judged_apart, JudgesApart}
 use Rattle.flp_verdict.proofs.PartTotals.{parts-total, sum-remainders}
 
@@ -126,13 +126,39 @@ length-ones : {X : Type 0} (xs : List X) → length xs ≡ sum_by (λ x. 1) xs
 length-ones [] = refl
 length-ones (x ∷ xs) = let rest = length-ones xs in let whole = sum_by-cons (λ y. 1) x xs in omega (arith, rest, whole)
 
-pub counts-apart : (program : Program) (shape : Shape) (claims reports : List (List ℕ)) (part : List ℕ → ℕ) (parts : ℕ) → ((nonce : List ℕ) → part nonce < parts)
-    → sum_by (λ k. count_of (judged_apart program shape part claims reports k)) (range_with_len 0 parts) ≡ count_of (judged program shape claims reports)
-counts-apart program shape claims reports part parts below =
-    let js = judged program shape claims reports in
-    let each : sum_by (λ k. count_of (judged_apart program shape part claims reports k)) (range_with_len 0 parts)
+-- it does not matter which of two tests is made first
+filters-swap : {X : Type 0} (p q : X → Bool) (xs : List X) → filter p (filter q xs) ≡ filter q (filter p xs)
+filters-swap p q [] = refl
+filters-swap p q (x ∷ xs) =
+    let rest = filters-swap p q xs in
+    ⊎_elim
+    (λ (yes : p x ≡ true).
+    ⊎_elim
+    (λ (both : q x ≡ true). rw (yes, both, yes) (ap (λ (l : List X). x ∷ l) rest))
+    (λ (no : q x ≡ false). rw (yes, no, no) rest)
+    (cases_Bool (q x)))
+    (λ (no : p x ≡ false).
+    ⊎_elim
+    (λ (yes : q x ≡ true). rw (no, yes, no) rest)
+    (λ (neither : q x ≡ false). rw (no, neither) rest)
+    (cases_Bool (q x)))
+    (cases_Bool (p x))
+
+-- the records of a bucket in a part are those of the part in the bucket
+buckets-apart : (program : Program) (shape : Shape) (claims reports : List (List ℕ)) (part : List ℕ → ℕ) (bucket k : ℕ)
+    → of_bucket shape bucket (judged_apart program shape part claims reports k)
+    ≡ filter (λ j. part (nonce_in j.report) == k) (of_bucket shape bucket (judged program shape claims reports))
+buckets-apart program shape claims reports part bucket k =
+    ap (of_bucket shape bucket) (verdicts-apart program shape claims reports part k)
+    ∙ filters-swap (λ (j : Judged). bucket == bucket_in shape j.report) (λ (j : Judged). part (nonce_in j.report) == k) (judged program shape claims reports)
+
+-- the counts of parts of judged records
+parts-counted : (part : List ℕ → ℕ) (parts : ℕ) → ((nonce : List ℕ) → part nonce < parts) → (apart : ℕ → List Judged) (js : List Judged)
+    → ((k : ℕ) → apart k ≡ filter (λ j. part (nonce_in j.report) == k) js) → sum_by (λ k. count_of (apart k)) (range_with_len 0 parts) ≡ count_of js
+parts-counted part parts below apart js are =
+    let each : sum_by (λ k. count_of (apart k)) (range_with_len 0 parts)
     ≡ sum_by (λ k. sum_by (λ r. 1) (accepted_in (filter (λ j. part (nonce_in j.report) == k) js))) (range_with_len 0 parts) =
-    (λ i. sum_by (λ k. (ap count_of (verdicts-apart program shape claims reports part k) ∙ length-ones (accepted_in (filter (λ j. part (nonce_in j.report) == k) js))) i) (range_with_len 0 parts)) in
+    (λ i. sum_by (λ k. (ap count_of (are k) ∙ length-ones (accepted_in (filter (λ j. part (nonce_in j.report) == k) js))) i) (range_with_len 0 parts)) in
     each ∙ accepted-parts (λ r. 1) part parts below js ∙ sym (length-ones (accepted_in js))
 
 -- the words with one index of mapped lists
@@ -151,21 +177,21 @@ aggregate-word program shape js i below =
     get_or-sum_of_lists (out_count program) (map (outs_in program shape) (accepted_in js)) i below
     ∙ ap (λ (n : ℕ). n % modulus) (total-mapped (outs_in program shape) i (accepted_in js))
 
-pub sums-apart : (program : Program) (shape : Shape) (claims reports : List (List ℕ)) (part : List ℕ → ℕ) (parts : ℕ) → ((nonce : List ℕ) → part nonce < parts)
-    → sum_of_lists (out_count program) (map (λ k. aggregate_of program shape (judged_apart program shape part claims reports k)) (range_with_len 0 parts))
-    ≡ aggregate_of program shape (judged program shape claims reports)
-sums-apart program shape claims reports part parts below =
-    let js = judged program shape claims reports in
+-- the aggregates of parts of judged records
+parts-summed : (program : Program) (shape : Shape) (part : List ℕ → ℕ) (parts : ℕ) → ((nonce : List ℕ) → part nonce < parts) → (apart : ℕ → List Judged) (js : List Judged)
+    → ((k : ℕ) → apart k ≡ filter (λ j. part (nonce_in j.report) == k) js)
+    → sum_of_lists (out_count program) (map (λ k. aggregate_of program shape (apart k)) (range_with_len 0 parts)) ≡ aggregate_of program shape js
+parts-summed program shape part parts below apart js are =
     let outs = out_count program in
     let mine : ℕ → List Judged = λ k. filter (λ j. part (nonce_in j.report) == k) js in
     let word : ℕ → List ℕ → ℕ = λ i r. get_or (outs_in program shape r) i 0 in
-    let lists : List (List ℕ) = map (λ k. aggregate_of program shape (judged_apart program shape part claims reports k)) (range_with_len 0 parts) in
+    let lists : List (List ℕ) = map (λ k. aggregate_of program shape (apart k)) (range_with_len 0 parts) in
     sym
     (sum_of_lists_from outs (aggregate_of program shape js) lists (length-sum_of_lists outs (map (outs_in program shape) (accepted_in js)))
     (λ (i : ℕ) (under : i < outs).
     let each : total_at lists i ≡ sum_by (λ k. sum_by (word i) (accepted_in (mine k)) % modulus) (range_with_len 0 parts) =
-    total-mapped (λ k. aggregate_of program shape (judged_apart program shape part claims reports k)) i (range_with_len 0 parts)
-    ∙ (λ j. sum_by (λ k. (ap (λ (l : List Judged). get_or (aggregate_of program shape l) i 0) (verdicts-apart program shape claims reports part k) ∙ aggregate-word program shape (mine k) i under) j) (range_with_len 0 parts)) in
+    total-mapped (λ k. aggregate_of program shape (apart k)) i (range_with_len 0 parts)
+    ∙ (λ j. sum_by (λ k. (ap (λ (l : List Judged). get_or (aggregate_of program shape l) i 0) (are k) ∙ aggregate-word program shape (mine k) i under) j) (range_with_len 0 parts)) in
     aggregate-word program shape js i under
     ∙ ap (λ (n : ℕ). n % modulus) (sym (accepted-parts (word i) part parts below js))
     ∙ sym (sum-remainders (λ k. sum_by (word i) (accepted_in (mine k))) (range_with_len 0 parts))
@@ -174,8 +200,15 @@ sums-apart program shape claims reports part parts below =
 -- ---- the law
 
 pub apart : (program : Program) (shape : Shape) (claims reports : List (List ℕ)) → JudgesApart program shape claims reports
-apart program shape claims reports = record {
-  verdicts = verdicts-apart program shape claims reports;
-  counts = counts-apart program shape claims reports;
-  sums = sums-apart program shape claims reports;
-}
+apart program shape claims reports =
+    let all = judged program shape claims reports in
+    record {
+      verdicts = verdicts-apart program shape claims reports;
+      counts = λ part parts below. parts-counted part parts below (judged_apart program shape part claims reports) all (verdicts-apart program shape claims reports part);
+      in_buckets = λ part parts below bucket.
+          parts-counted part parts below (λ k. of_bucket shape bucket (judged_apart program shape part claims reports k)) (of_bucket shape bucket all)
+          (buckets-apart program shape claims reports part bucket);
+      sums = λ part parts below bucket.
+          parts-summed program shape part parts below (λ k. of_bucket shape bucket (judged_apart program shape part claims reports k)) (of_bucket shape bucket all)
+          (buckets-apart program shape claims reports part bucket);
+    }

@@ -19,6 +19,7 @@ use Rattle.flp_report.specs.Record.{words_in}
 use Rattle.flp_worker.specs.Parts.{unshared_encoding}
 use Rattle.flp_worker.specs.Verdict.{outs_in}
 use Rattle.flp_verdict.specs.Verdicts.{judged, accepted_in}
+use Rattle.flp_verdict.specs.Totals.{of_bucket}
 use Rattle.flp_verdict.specs.Laws.{whole_sum, SumsMeasurements}
 
 -- sums that are words are the sums modulo p
@@ -52,9 +53,9 @@ outs_in-encodings params shape (report ∷ reports) =
     ap (λ (vs : List (List ℕ)). outs_of (standard_program params) (unshared_encoding shape (words_in shape report)) ∷ vs) (outs_in-encodings params shape reports)
 
 pub sums_measurements : (params : Params) → Fits params → (shape : Shape) (claims reports : List (List ℕ)) → OutsAreVectors → SumsMeasurements (standard_program params) params shape claims reports
-sums_measurements params fits shape claims reports vectors inputs encode words =
+sums_measurements params fits shape claims reports vectors bucket inputs encode words =
     let program = standard_program params in
-    let accepted = accepted_in (judged program shape claims reports) in
+    let accepted = accepted_in (of_bucket shape bucket (judged program shape claims reports)) in
     let outs : map (outs_in program shape) accepted ≡ map (vector_of params) inputs =
     outs_in-encodings params shape accepted
     ∙ (ap (map (outs_of program)) encode.encoded ∙ outs-encoded params inputs vectors fits encode.in_range) in

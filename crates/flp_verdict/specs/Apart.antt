@@ -8,7 +8,7 @@ use Rattle.flp_meaning.specs.Gadgets.{out_count}
 use Rattle.flp_report.specs.declared.shape.Shape.{Shape}
 use Rattle.flp_report.specs.Record.{nonce_in}
 use Rattle.flp_verdict.specs.Verdicts.{Judged, judged}
-use Rattle.flp_verdict.specs.Totals.{count_of, aggregate_of}
+use Rattle.flp_verdict.specs.Totals.{count_of, aggregate_of, of_bucket}
 
 -- the old claims and the records of a part, in their order
 abbrev pub claims_of_part : (part : List ℕ → ℕ) → ℕ → List (List ℕ) → List (List ℕ)
@@ -22,12 +22,15 @@ abbrev pub judged_apart : Program → Shape → (part : List ℕ → ℕ) → (c
 judged_apart program shape part claims reports k = judged program shape (claims_of_part part k claims) (records_of_part part k reports)
 
 -- whichever parts are made: the verdict on a record in its part is that in the whole batch; and where there are so many
--- parts, their counts and their aggregates add up to those of the whole
+-- parts, their counts, and in each bucket their counts and their aggregates, add up to those of the whole
 pub record JudgesApart (program : Program) (shape : Shape) (claims reports : List (List ℕ)) : Type 0 where
   pub verdicts : (part : List ℕ → ℕ) (k : ℕ)
       → judged_apart program shape part claims reports k ≡ filter (λ j. part (nonce_in j.report) == k) (judged program shape claims reports)
   pub counts : (part : List ℕ → ℕ) (parts : ℕ) → ((nonce : List ℕ) → part nonce < parts)
       → sum_by (λ k. count_of (judged_apart program shape part claims reports k)) (range_with_len 0 parts) ≡ count_of (judged program shape claims reports)
-  pub sums : (part : List ℕ → ℕ) (parts : ℕ) → ((nonce : List ℕ) → part nonce < parts)
-      → sum_of_lists (out_count program) (map (λ k. aggregate_of program shape (judged_apart program shape part claims reports k)) (range_with_len 0 parts))
-      ≡ aggregate_of program shape (judged program shape claims reports)
+  pub in_buckets : (part : List ℕ → ℕ) (parts : ℕ) → ((nonce : List ℕ) → part nonce < parts) → (bucket : ℕ)
+      → sum_by (λ k. count_of (of_bucket shape bucket (judged_apart program shape part claims reports k))) (range_with_len 0 parts)
+      ≡ count_of (of_bucket shape bucket (judged program shape claims reports))
+  pub sums : (part : List ℕ → ℕ) (parts : ℕ) → ((nonce : List ℕ) → part nonce < parts) → (bucket : ℕ)
+      → sum_of_lists (out_count program) (map (λ k. aggregate_of program shape (of_bucket shape bucket (judged_apart program shape part claims reports k))) (range_with_len 0 parts))
+      ≡ aggregate_of program shape (of_bucket shape bucket (judged program shape claims reports))

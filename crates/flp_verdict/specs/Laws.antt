@@ -19,7 +19,7 @@ use Rattle.flp_policy.specs.declared.verdict.Verdict.TheVariants.{Accepted, Reje
 use Rattle.flp_worker.specs.Verdict.{verdict_of}
 use Rattle.flp_worker.specs.Parts.{joint_words, query_words, unshared_encoding, unshared_proof}
 use Rattle.flp_verdict.specs.Verdicts.{judged, verdicts_of, accepted_in}
-use Rattle.flp_verdict.specs.Totals.{aggregate_of}
+use Rattle.flp_verdict.specs.Totals.{aggregate_of, of_bucket}
 
 -- the record at a place
 abbrev pub report_at : List (List ℕ) → ℕ → List ℕ
@@ -82,7 +82,7 @@ AcceptsHonest program shape claims reports =
 abbrev pub whole_sum : ℕ → List (List ℕ) → List ℕ
 whole_sum n vectors = map (λ k. sum_by (λ vector. slice_index vector k) vectors) (range_with_len 0 n)
 
--- the accepted records encode these measurements, in their order, and each is in range
+-- accepted records encode these measurements, in their order, and each is in range
 pub record Encode (params : Params) (shape : Shape) (reports inputs : List (List ℕ)) : Type 0 where
   pub in_range : All (λ input. meas_fault params input ≡ None) inputs
   pub encoded : map (λ report. unshared_encoding shape (words_in shape report)) reports ≡ map (encoding_of params) inputs
@@ -91,10 +91,10 @@ pub record Encode (params : Params) (shape : Shape) (reports inputs : List (List
 abbrev pub measured : Params → List (List ℕ) → List ℕ
 measured params inputs = whole_sum (out_count (standard_program params)) (map (vector_of params) inputs)
 
--- where it is below p in each place, it is the aggregate of this circuit
+-- where that of the accepted records of a bucket is below p in each place, it is the bucket's aggregate
 abbrev pub SumsMeasurements : Program → Params → Shape → (claims reports : List (List ℕ)) → Type 0
 SumsMeasurements program params shape claims reports =
-    (inputs : List (List ℕ))
-    → Encode params shape (accepted_in (judged program shape claims reports)) inputs
+    (bucket : ℕ) (inputs : List (List ℕ))
+    → Encode params shape (accepted_in (of_bucket shape bucket (judged program shape claims reports))) inputs
     → AreWords (measured params inputs)
-    → aggregate_of program shape (judged program shape claims reports) ≡ measured params inputs
+    → aggregate_of program shape (of_bucket shape bucket (judged program shape claims reports)) ≡ measured params inputs

@@ -24,8 +24,8 @@ pub fn honest()
     flp_meaning::laws::honest_is_accepted();
 }
 
-/// Where the accepted records of a standard circuit encode measurements whose sum is below p in each place, the
-/// aggregate is that sum.
+/// Where the accepted records of a bucket encode measurements of a standard circuit whose sum is below p in each place, the
+/// bucket's aggregate is that sum.
 pub fn sums()
     ensures { (params : Params) → Fits params → (shape : Shape) (claims reports : List (List ℕ)) → SumsMeasurements (standard_program params) params shape claims reports }
 {
@@ -33,7 +33,8 @@ pub fn sums()
 }
 
 /// A batch may be verified in parts, into which its records and old claims fall by their nonces: the verdicts in a part
-/// are those in the whole batch, and the counts and the aggregates of the parts add up to those of the whole.
+/// are those in the whole batch, and the counts and the aggregates of the parts, bucket by bucket, add up to those of the
+/// whole.
 pub fn apart()
     ensures { (program : Program) (shape : Shape) (claims reports : List (List ℕ)) → JudgesApart program shape claims reports }
 {}

@@ -2,7 +2,7 @@
 //!
 //! A record whose nonce is an old claim, or that of an earlier record, is replayed; of every other the verdict is
 //! that of flp_worker. [`Judging`] keeps what decides that: the nonces that it knows, and a worker. The text
-//! (`specs/Text.antt`, `specs/Release.antt`) is a line for each record and an ending: how many are accepted, and the sum of
+//! (`specs/Text.antt`, `specs/Release.antt`) is a line for each record and an ending: how many are accepted, and for each bucket the sum of
 //! their outs. It is a plain function of the records, which knows nothing of how the program gets there.
 //!
 //! | To | Use |
