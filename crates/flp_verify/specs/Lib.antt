@@ -7,6 +7,8 @@ pub mod Marks
 pub mod Numbers
 -- a batch that was counted, and what is printed of it
 pub mod Counted
+-- what follows the lines, by what it is made of
+pub mod Ending
 -- the rows that places bring to the sums
 pub mod Rows
 -- what the totals of these rows are, and what is printed of them

@@ -3,7 +3,6 @@ use Rattle.std.specs.Prelude.{ℕ, ◌≡◌, List, Bool, Option, None, Result, 
 use Rattle.std.specs.Io.KnownBytes.{Consumes, Appends, IsAtEnd}
 use Rattle.flp_syntax.specs.declared.syntax.Params.{Params}
 use Rattle.flp_report.specs.Batch.{whole_records}
-use Rattle.flp_report.specs.Shape.{bytes_of}
 use Rattle.flp_batch.specs.declared.fault.EngineFault.{EngineFault}
 use Rattle.flp_batch.specs.declared.front.Opened.{Opened}
 use Rattle.flp_batch.specs.Format.{newest_read}
@@ -18,7 +17,7 @@ use Rattle.flp_verify.specs.declared.counted.End.{End}
 use Rattle.flp_verify.specs.declared.counted.Summary.{Summary}
 use Rattle.flp_verify.specs.Counted.{withheld_by}
 use Rattle.flp_verify.specs.Laws.{IsCounted}
-use Rattle.flp_verify.specs.Text.{verdicts_by, verdict_lines, refused_by, released_by}
+use Rattle.flp_verify.specs.Text.{judged_by, verdict_lines, refused_by, released_by}
 use Rattle.flp_verify.specs.Told.{AreTold}
 
 -- the records of a batch of these bytes
@@ -30,20 +29,20 @@ records_on bytes setting = whole_records newest_read None setting.shape bytes
 -- behind what was opened all records were read, and then the end of the input; their lines were written, and this is what is
 -- known of them
 pub record CountsRecords (o : Opened) (least : ℕ) (would asked : Answers) (counted : Counted) (left left' taken taken' : Option (List ℕ)) : Type 0 where
-  pub all : Tells (bytes_of o.shape) o.header.reports (verdict_lines (setting_of o)) left left' taken taken'
+  pub all : Tells o.shape o.header.reports (verdict_lines (setting_of o)) left left' taken taken'
   pub counted_is : IsCounted (setting_of o) least would all.records counted
-  pub told : AreTold 0 (verdicts_by (setting_of o) all.records) would asked
+  pub told : AreTold o.shape (judged_by (setting_of o) all.records) would asked
 
 -- the input was read to its end and is a batch, the output grew by exactly the lines of its records, this is what is known of
 -- it, and the policies were told all verdicts
 pub record Counts (least : ℕ) (would asked : Answers) (counted : Counted) (left left' taken taken' : Option (List ℕ)) : Type 0 where
   pub whole : WritesText None verdict_lines left left' taken taken'
   pub counted_is : IsCounted whole.setting least would (records_on whole.bytes whole.setting) counted
-  pub told : AreTold 0 (verdicts_by whole.setting (records_on whole.bytes whole.setting)) would asked
+  pub told : AreTold whole.setting.shape (judged_by whole.setting (records_on whole.bytes whole.setting)) would asked
 
 -- ---- and released
 
--- the input was read to its end and is a batch, the output grew by exactly its text, and this is how its aggregate ended
+-- the input was read to its end and is a batch, the output grew by exactly its text, and this is how its aggregates ended: released, or the first that is withheld
 pub record Releases (least : ℕ) (would : Answers) (claims : Bool) (end : End) (left left' taken taken' : Option (List ℕ)) : Type 0 where
   pub bytes : List ℕ
   pub params : Option Params

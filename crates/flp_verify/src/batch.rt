@@ -1,5 +1,5 @@
 //! A batch that is verified, from its bytes to what is known of it.
-ghost use Rattle.std.specs.Prelude.{◌≡◌, ◌+◌, ◌≤◌, ◌<◌, ◌^◌, ◌-◌, ℕ, List, Option, None, Err, IfOk, IfErr, IfSome, OnOk, OnErr, length, map};
+ghost use Rattle.std.specs.Prelude.{◌≡◌, ◌+◌, ◌≤◌, ◌<◌, ◌^◌, ◌-◌, ℕ, List, Option, None, Err, IfOk, IfErr, IfSome, OnOk, OnErr, length, map, vec_len};
 ghost use Rattle.std.specs.Io.KnownBytes.{Keeps};
 ghost use Rattle.flp_io.specs.Reads.{ConsumesAtMost};
 ghost use Rattle.flp_report.specs.Nonces.{nonces_in};
@@ -12,7 +12,6 @@ ghost use Rattle.flp_batch.specs.Format.{batches};
 ghost use Rattle.flp_batch.specs.Opened.{IsOpened, IsReady, IsRecordsFault, records_size, setting_of};
 ghost use Rattle.flp_batch.specs.Reply.{StopsEarly, SettlesEarly};
 ghost use Rattle.flp_batch.specs.Walk.{Breaks};
-ghost use Rattle.flp_verify.specs.Counted.{withheld_by};
 ghost use Rattle.flp_verify.specs.Laws.{IsCounted};
 ghost use Rattle.flp_verify.specs.Reply.{Counts, CountsRecords};
 ghost use Rattle.flp_verify.specs.Settled.{IsBehind, IsBoardFor, IsStart, Standing, opened_with, setting_with, standing};
@@ -20,30 +19,21 @@ ghost use Rattle.flp_verify.specs.Text.{verdict_line, verdict_lines};
 
 use crate::Memory;
 use crate::board::Board;
-use crate::counted::{Counted, End};
+use crate::counted::Counted;
 use crate::engine::{Ledger, verify_records};
 use crate::front::Front;
-use crate::policies::first_refusal;
+use crate::policies::{ask_all, first_end};
 use crate::room::Room;
 use flp_batch::{EngineFault, Opened, open};
 use flp_io::{Sink, Source};
+use flp_list::List;
 use flp_policy::{Floor, Policy};
 use flp_pool::Gate;
 use flp_report::{BatchReader, Nonces};
 use std::alloc::Global;
 use std::thread::Threads;
 
-/// How a batch ends that this policy does not allow to be released, or that all allow.
-fn end_by(refusal: Option<u32>) -> End
-    ensures { withheld_by result ≡ refusal }
-{
-    match refusal {
-        None => End::Released,
-        Some(policy) => End::Withheld(policy),
-    }
-}
-
-/// What is known of a batch whose records were all verified: the policies are asked in their order.
+/// What is known of a batch whose records were all verified: the policies are asked of each bucket.
 fn conclude(
     alloc: Global,
     front: &Front,
@@ -52,6 +42,7 @@ fn conclude(
 ) -> Result<Counted, Memory>
     requires board { IfSome ledger.board (IsBoardFor front.now) }
     requires few { length policies.now < 2 ^ 32 - 1 }
+    requires buckets { (vec_len ledger.counts ≡ front.now.shape.buckets) × (vec_len ledger.ends ≡ front.now.shape.buckets) }
     ensures { (least : ℕ) (start : Standing) (records : List (List ℕ)) → IsStart front.now least start
         → IsBehind front.now start (standing front.now ledger (⟦<Floor as Policy>⟧.would ledger.floor) (λ more of. map (λ p. would p more of) policies.now)) records
         → IfOk result (IsCounted (setting_with front.now start.known) least start.answers records) }
@@ -59,16 +50,23 @@ fn conclude(
     let Ledger {
         known,
         numbers,
+        counts,
+        mut ends,
         floor,
         board,
     } = ledger;
     let Board { tally, seat } = Board::there_or_new(alloc, board, front)?;
-    let end = end_by(first_refusal(&floor, policies, 0));
+    ask_all(&floor, policies, &mut ends);
+    let end = first_end(&ends);
     Ok(Counted {
+        version: front.shape.version,
+        buckets: front.shape.buckets,
         outs: front.shape.outs,
         numbers,
+        counts: List::from_vec(counts),
         known,
         end,
+        ends: List::from_vec(ends),
         tally,
         seat,
     })
@@ -142,7 +140,7 @@ fn verify_behind<R: Threads + Sync, S: Source, K: Sink, G: Gate>(
         (S.faults (source_of reader.old)) (S.faults (source_of reader.new)) (K.faults output.old) (K.faults output.new) result }
 {
     let mut room = Room::new(alloc, &front)?;
-    let mut ledger = Ledger::new(alloc, claims, least);
+    let mut ledger = Ledger::new(alloc, claims, least, front.shape.buckets)?;
     if let Err(fault) = verify_records(
         rt,
         alloc,
@@ -198,15 +196,16 @@ fn verify_file<R: Threads + Sync, S: Source, K: Sink, G: Gate>(
 /// Verifies the batch that is the input by so many workers, and writes the line of each record.
 ///
 /// The records are read segment by segment. The verdicts on a segment are told to the policies, in the order of the file,
-/// and its lines are written before the next is read. The end of the input seen, the policies are asked whether they allow
-/// the release of the aggregate: first one that wants `least` accepted records, and then the others.
+/// each with its record's bucket, and its lines are written before the next is read. The end of the input seen, the policies
+/// are asked of each bucket whether they allow the release of its aggregate: first one that wants `least` accepted records,
+/// and then the others.
 ///
 /// An error is the first fault of the input, or [`EngineFault::Read`], [`EngineFault::Write`] or [`EngineFault::Memory`].
 /// The output has then taken a prefix of the lines of the records that were read whole; behind a fault of the input exactly
 /// those of the segments that were read whole; and nothing where the fault lies in front of the records.
 ///
-/// Room is taken for the text and its circuit, for the old claims, for one segment, for each worker and for a block of
-/// lines, and behind the first segment for the tally; from then on for the nonces of records alone.
+/// Room is taken for the text and its circuit, for the old claims, for one segment, for each worker, for each bucket and for
+/// a block of lines, and behind the first segment for the tally; from then on for the nonces of records alone.
 pub fn verify_batch<R: Threads + Sync, S: Source, K: Sink, G: Gate>(
     rt: &R,
     alloc: Global,

@@ -28,7 +28,7 @@ impl Board {
         let (tally, seat) = Tally::new(
             alloc,
             front.header.reports,
-            front.shape.outs,
+            front.shape.width() as u32,
             front.workers,
         )?;
         Ok(Board { tally, seat })

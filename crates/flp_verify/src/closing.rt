@@ -3,11 +3,10 @@ ghost use Rattle.std.specs.Prelude.{◌≡◌, ◌≢◌, ◌⊎◌, Err, IfOk, 
 ghost use Rattle.std.specs.Io.KnownBytes.{Appends};
 ghost use Rattle.flp_io.specs.Faults.{Uses};
 ghost use Rattle.flp_io.specs.Writes.{TakesPrefix};
-ghost use Rattle.flp_known.specs.Known.{known_in};
 ghost use Rattle.flp_tally.specs.Held.{IsSeatOf};
 ghost use Rattle.flp_tally.specs.Rows.{AreSums};
-ghost use Rattle.flp_verdict.specs.Release.{ending_by};
-ghost use Rattle.flp_verify.specs.Counted.{withheld_by, totals_of, totals_in, ending_of, IsSummary};
+ghost use Rattle.flp_verify.specs.Ending.{IsListed, text_of};
+ghost use Rattle.flp_verify.specs.Counted.{totals_of, totals_in, ending_of, IsSummary};
 
 use crate::EngineFault;
 use crate::counted::{Counted, Summary};
@@ -18,8 +17,8 @@ use flp_list::List;
 use flp_tally::{Seat, Tally};
 use std::alloc::Global;
 
-/// Ends a batch that was verified: closes its tally, and writes how many records are accepted, then the sums of their outs
-/// or the policy that withholds these, and with `claims` a line for each nonce that is known behind the batch.
+/// Ends a batch that was verified: closes its tally, and writes how many records are accepted, then for each bucket the sums
+/// of their outs or the policy that withholds these, and with `claims` a line for each nonce that is known behind the batch.
 ///
 /// The sums that are answered are those of the tally, also where a policy withholds them. An error is
 /// [`EngineFault::Memory`], before anything was written, or [`EngineFault::Write`], and then the output has taken a
@@ -39,21 +38,30 @@ pub fn finish<K: Sink>(
     ensures faults { IfErr result (λ fault. (fault ≡ EngineFault.Memory) ⊎ (fault ≡ EngineFault.Write)) }
     ensures uses { Uses K.faults K.ready output.old output.new (result ≡ Err EngineFault.Write) (IsOk result) }
 {
-    let mut totals = vec![in alloc; Fe::ZERO; counted.outs as usize]?;
+    let width = counted.buckets as usize * counted.outs as usize;
+    let mut totals = vec![in alloc; Fe::ZERO; width]?;
     let mut block = Block::new(alloc)?;
     let Counted {
-        outs: _,
+        version,
+        buckets,
+        outs,
         numbers,
+        counts,
         known,
-        end,
+        end: _,
+        ends,
         tally,
         seat,
     } = counted;
     close_into(tally, seat, &mut totals);
     let ending = Ending {
+        version,
+        buckets,
+        outs,
         accepted: numbers.accepted,
-        end,
-        aggregate: totals.as_slice(),
+        counts: counts.as_slice(),
+        ends: ends.as_slice(),
+        totals: totals.as_slice(),
         claims,
         known: &known,
     };
@@ -82,10 +90,9 @@ fn close_into(tally: Tally, seat: Seat, totals: &mut Vec<Fe>)
 fn write_ending<K: Sink>(block: &mut Block, sink: &mut K, ending: &Ending<'_>) -> Result<(), Failed>
     requires ready { K.ready sink.old }
     requires empty { block.old ≡ [] }
-    ensures whole { OnOk result (Appends (K.taken sink.old) (K.taken sink.new)
-        (ending_by ending.now.accepted (withheld_by ending.now.end) ending.now.aggregate.now ending.now.claims (known_in ending.now.known.now))) }
-    ensures front { TakesPrefix (K.taken sink.old) (K.taken sink.new)
-        (ending_by ending.now.accepted (withheld_by ending.now.end) ending.now.aggregate.now ending.now.claims (known_in ending.now.known.now)) }
+    requires listed { IsListed ending.now }
+    ensures whole { OnOk result (Appends (K.taken sink.old) (K.taken sink.new) (text_of ending.now)) }
+    ensures front { TakesPrefix (K.taken sink.old) (K.taken sink.new) (text_of ending.now) }
     ensures uses { Uses K.faults K.ready sink.old sink.new (IsErr result) (IsOk result) }
 {
     put_ending(block, sink, ending)?;

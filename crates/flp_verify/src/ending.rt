@@ -1,24 +1,29 @@
 //! What follows the lines of the records, line by line through a block.
-ghost use Rattle.std.specs.Prelude.{◌++◌, decimal, codes};
+ghost use Rattle.std.specs.Prelude.{◌++◌, ◌==◌, ◌<◌, [], if◌then◌else◌, decimal, codes};
 ghost use Rattle.flp_known.specs.Known.{known_in};
 ghost use Rattle.flp_known.specs.Puts.{Puts};
 ghost use Rattle.flp_verdict.specs.Text.{spaced};
-ghost use Rattle.flp_verdict.specs.Release.{release_line, claims_out, ending_by};
-ghost use Rattle.flp_verify.specs.Counted.{withheld_by};
+ghost use Rattle.flp_verdict.specs.Release.{release_line, bucket_head, bucket_line, bucket_lines, claims_out};
+ghost use Rattle.flp_verify.specs.Counted.{withheld_by, closing_by};
+ghost use Rattle.flp_verify.specs.Ending.{IsListed, text_of};
 
 use crate::counted::End;
 use flp_field::Fe;
 use flp_io::{Block, Failed, Sink};
 use flp_known::{Known, put_line, put_piece};
-use flp_verdict::put_spaced;
+use flp_verdict::{put_number, put_spaced};
 
-/// What follows the lines of the records of a batch: how many are accepted, how its release ended, the sums of the outs of these,
-/// and whether what is known is told as claims.
+/// What follows the lines of the records of a batch: how many are accepted, of each bucket how many of its records are and how
+/// its release ended, the sums of the outs of these, bucket after bucket, and whether what is known is told as claims.
 #[derive(Clone, Copy)]
 pub(crate) struct Ending<'a> {
+    pub version: u32,
+    pub buckets: u32,
+    pub outs: u32,
     pub accepted: u32,
-    pub end: End,
-    pub aggregate: &'a [Fe],
+    pub counts: &'a [u32],
+    pub ends: &'a [End],
+    pub totals: &'a [Fe],
     pub claims: bool,
     pub known: &'a Known,
 }
@@ -63,6 +68,74 @@ fn put_release<K: Sink>(
     }
 }
 
+/// Puts how the line of a bucket begins in this version, of whose records so many are accepted.
+fn put_bucket_head<K: Sink>(
+    block: &mut Block,
+    sink: &mut K,
+    version: u32,
+    bucket: u32,
+    accepted: u32,
+) -> Result<(), Failed>
+    requires { K.ready sink.old }
+    ensures { Puts K.taken K.faults K.ready sink.old sink.new block.old block.new (if version == 2 then bucket_head bucket accepted else []) result }
+{
+    if version == 2 {
+        put_bucket_name(block, sink, bucket, accepted)
+    } else {
+        put_piece(block, sink, b"")
+    }
+}
+
+/// Puts the name of a bucket, of whose records so many are accepted.
+fn put_bucket_name<K: Sink>(
+    block: &mut Block,
+    sink: &mut K,
+    bucket: u32,
+    accepted: u32,
+) -> Result<(), Failed>
+    requires { K.ready sink.old }
+    ensures { Puts K.taken K.faults K.ready sink.old sink.new block.old block.new (bucket_head bucket accepted) result }
+{
+    put_piece(block, sink, b"bucket ")?;
+    put_number(block, sink, u64::from(bucket))?;
+    put_piece(block, sink, b" count ")?;
+    put_number(block, sink, u64::from(accepted))?;
+    put_piece(block, sink, b" ")
+}
+
+/// Puts the line of a bucket.
+fn put_bucket<K: Sink>(
+    block: &mut Block,
+    sink: &mut K,
+    ending: &Ending<'_>,
+    bucket: u32,
+) -> Result<(), Failed>
+    requires ready { K.ready sink.old }
+    requires listed { IsListed ending.now }
+    requires bucket { bucket < ending.now.buckets }
+    ensures { Puts K.taken K.faults K.ready sink.old sink.new block.old block.new
+        (bucket_line ending.now.version bucket (closing_by ending.now.outs ending.now.counts.now ending.now.ends.now ending.now.totals.now bucket)) result }
+{
+    let at = bucket as usize;
+    let outs = ending.outs as usize;
+    let start = at * outs;
+    put_bucket_head(block, sink, ending.version, bucket, ending.counts[at])?;
+    put_release(block, sink, ending.ends[at], &ending.totals[start..start + outs])
+}
+
+/// Puts the lines of the buckets, in their order.
+fn put_buckets<K: Sink>(block: &mut Block, sink: &mut K, ending: &Ending<'_>) -> Result<(), Failed>
+    requires ready { K.ready sink.old }
+    requires listed { IsListed ending.now }
+    ensures { Puts K.taken K.faults K.ready sink.old sink.new block.old block.new
+        (bucket_lines ending.now.version ending.now.buckets (closing_by ending.now.outs ending.now.counts.now ending.now.ends.now ending.now.totals.now)) result }
+{
+    for bucket in 0..ending.buckets {
+        put_bucket(block, sink, ending, bucket)?;
+    }
+    Ok(())
+}
+
 /// Puts the lines of claims where they are asked for.
 fn put_claims_out<K: Sink>(
     block: &mut Block,
@@ -80,18 +153,18 @@ fn put_claims_out<K: Sink>(
     }
 }
 
-/// Puts all that follows the lines of the records: how many are accepted, the line of the aggregate or of the policy that
-/// withholds it, and the claims where they are asked for.
+/// Puts all that follows the lines of the records: how many are accepted, a line for each bucket with its aggregate or the
+/// policy that withholds it, and the claims where they are asked for.
 pub(crate) fn put_ending<K: Sink>(
     block: &mut Block,
     sink: &mut K,
     ending: &Ending<'_>,
 ) -> Result<(), Failed>
-    requires { K.ready sink.old }
-    ensures { Puts K.taken K.faults K.ready sink.old sink.new block.old block.new
-        (ending_by ending.now.accepted (withheld_by ending.now.end) ending.now.aggregate.now ending.now.claims (known_in ending.now.known.now)) result }
+    requires ready { K.ready sink.old }
+    requires listed { IsListed ending.now }
+    ensures { Puts K.taken K.faults K.ready sink.old sink.new block.old block.new (text_of ending.now) result }
 {
     put_number_line(block, sink, b"count ", ending.accepted)?;
-    put_release(block, sink, ending.end, ending.aggregate)?;
+    put_buckets(block, sink, ending)?;
     put_claims_out(block, sink, ending.claims, ending.known)
 }

@@ -1,5 +1,5 @@
 //! The walk through the records of a batch, segment by segment.
-ghost use Rattle.std.specs.Prelude.{◌≡◌, ◌+◌, ◌<◌, ◌≤◌, ℕ, All, None, Err, OnOk, OnErr, IfErr, IsOk, length, map, take, nat_le};
+ghost use Rattle.std.specs.Prelude.{◌≡◌, ◌+◌, ◌<◌, ◌≤◌, ℕ, All, None, Err, OnOk, OnErr, IfOk, IfErr, IsOk, length, map, take, nat_le, vec_len};
 ghost use Rattle.std.specs.Io.KnownBytes.{Appends, IsAtEnd};
 ghost use Rattle.flp_io.specs.Faults.{Uses};
 ghost use Rattle.flp_io.specs.Reads.{ConsumesAtMost};
@@ -8,7 +8,6 @@ ghost use Rattle.flp_report.specs.Buckets.{HasBucket};
 ghost use Rattle.flp_report.specs.Nonces.{nonces_in};
 ghost use Rattle.flp_report.specs.Reader.{source_of, SameLoan};
 ghost use Rattle.flp_report.specs.Segment.{used_in, records_in};
-ghost use Rattle.flp_report.specs.Shape.{bytes_of};
 ghost use Rattle.flp_policy.specs.Counts.{VerdictCounts, no_more};
 ghost use Rattle.flp_known.specs.Known.{known_in};
 ghost use Rattle.flp_pool.specs.Range.{LacksRange, TakesRange};
@@ -20,10 +19,12 @@ ghost use Rattle.flp_batch.specs.Front.{IsAtRecords};
 ghost use Rattle.flp_batch.specs.Opened.{IsRecordsFault, records_size};
 ghost use Rattle.flp_batch.specs.Walk.{Judges, Breaks};
 ghost use Rattle.flp_verify.specs.Numbers.{counts_in};
-ghost use Rattle.flp_verify.specs.Settled.{IsRoomFor, IsBoardFor, IsBetween, IsRound, IsBehind, Advances, standing, setting_with, opened_with, found_lines};
+ghost use Rattle.flp_verify.specs.Settled.{AreNone, IsRoomFor, IsBoardFor, IsBetween, IsRound, IsBehind, Advances, standing, setting_with, opened_with, found_lines};
 ghost use Rattle.flp_verify.specs.Text.{verdict_line};
 
+use crate::Memory;
 use crate::board::Board;
+use crate::counted::End;
 use crate::front::Front;
 use crate::lines::put_segment;
 use crate::marks::mark;
@@ -40,30 +41,44 @@ use flp_round::{Crew, Round, verify_segment};
 use std::alloc::Global;
 use std::thread::Threads;
 
-/// What is kept over the segments: the nonces that are known, how many records have each verdict, the least policy, and the
-/// tally once it is made.
+/// What is kept over the segments: the nonces that are known, how many records have each verdict, and how many of each bucket
+/// are accepted, room for how each bucket ends, the least policy, and the tally once it is made.
 #[derive(Drop)]
 pub struct Ledger {
     pub(crate) known: Known,
     pub(crate) numbers: Numbers,
+    pub(crate) counts: Vec<u32>,
+    pub(crate) ends: Vec<End>,
     pub(crate) floor: Floor,
     pub(crate) board: Option<Board>,
 }
 
 impl Ledger {
-    /// In front of the first record, behind these old claims.
-    pub(crate) fn new(alloc: Global, claims: Nonces, least: u64) -> Ledger
-        ensures known { known_in result.known ≡ nonces_in claims }
-        ensures counts { counts_in result.numbers ≡ no_more }
-        ensures board { result.board ≡ None }
-        ensures floor { (more : VerdictCounts) (of : ℕ) → of < 256 → ⟦<Floor as Policy>⟧.would result.floor more of ≡ nat_le least more.accepted }
+    /// In front of the first record, behind these old claims, for records of so many buckets.
+    pub(crate) fn new(
+        alloc: Global,
+        claims: Nonces,
+        least: u64,
+        buckets: u32,
+    ) -> Result<Ledger, Memory>
+        ensures known { IfOk result (λ ledger. ledger.known.claims ≡ claims) }
+        ensures knows { IfOk result (λ ledger. known_in ledger.known ≡ nonces_in claims) }
+        ensures counts { IfOk result (λ ledger. counts_in ledger.numbers ≡ no_more) }
+        ensures accepted { IfOk result (λ ledger. AreNone ledger.counts.items) }
+        ensures buckets { IfOk result (λ ledger. (vec_len ledger.counts ≡ buckets) × (vec_len ledger.ends ≡ buckets)) }
+        ensures board { IfOk result (λ ledger. ledger.board ≡ None) }
+        ensures floor { IfOk result (λ ledger. (more : VerdictCounts) (of : ℕ) → of < 256 → ⟦<Floor as Policy>⟧.would ledger.floor more of ≡ nat_le least more.accepted) }
     {
-        Ledger {
+        let counts = vec![in alloc; 0; buckets as usize]?;
+        let ends = vec![in alloc; End::Released; buckets as usize]?;
+        Ok(Ledger {
             known: Known::of_claims(alloc, claims),
             numbers: Numbers::none(),
+            counts,
+            ends,
             floor: Floor::new(least),
             board: None,
-        }
+        })
     }
 }
 
@@ -144,9 +159,11 @@ fn pass_segment<R: Threads + Sync, K: Sink, G: Gate>(
     );
     ledger.board = Some(board);
     tell_segment(
+        &room.segment,
         &room.crew,
         count,
         &mut ledger.numbers,
+        &mut ledger.counts,
         &mut ledger.floor,
         policies,
     );
@@ -172,11 +189,12 @@ pub(crate) fn verify_records<R: Threads + Sync, S: Source, K: Sink, G: Gate>(
 ) -> Result<(), EngineFault>
     requires ready { IsAtRecords reader.old front.now.header front.now.shape }
     requires room { IsRoomFor front.now room.old }
-    requires new { (counts_in ledger.old.numbers ≡ no_more) × (ledger.old.board ≡ None) }
+    requires new { (counts_in ledger.old.numbers ≡ no_more) × (ledger.old.board ≡ None) × AreNone ledger.old.counts.items }
+    requires buckets { (vec_len ledger.old.counts ≡ front.now.shape.buckets) × (vec_len ledger.old.ends ≡ front.now.shape.buckets) }
     requires streams { S.ready (source_of reader.old) × K.ready output.old }
     ensures same { SameLoan reader.old reader.new }
     ensures between { OnOk result (IsBetween front.now front.now.header.reports room.new ledger.new) }
-    ensures done { OnOk result (Judges (bytes_of front.now.shape) front.now.header.reports (verdict_line (setting_with front.now (known_in ledger.old.known)))
+    ensures done { OnOk result (Judges front.now.shape front.now.header.reports (verdict_line (setting_with front.now (known_in ledger.old.known)))
         (IsBehind front.now (standing front.now ledger.old (⟦<Floor as Policy>⟧.would ledger.old.floor) (λ more of. map (λ p. would p more of) policies.old))
         (standing front.now ledger.new (⟦<Floor as Policy>⟧.would ledger.new.floor) (λ more of. map (λ p. would p more of) policies.new)))
         (S.left (source_of reader.old)) (S.left (source_of reader.new)) (K.taken output.old) (K.taken output.new)) }

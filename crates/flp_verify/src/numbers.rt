@@ -1,7 +1,7 @@
 //! How many places have each verdict.
-ghost use Rattle.std.specs.Prelude.{◌≡◌, ◌+◌, ◌-◌, ◌^◌, ◌<◌};
+ghost use Rattle.std.specs.Prelude.{◌≡◌, ◌+◌, ◌-◌, ◌^◌, ◌<◌, ℕ, length, slice_index_or};
 ghost use Rattle.flp_policy.specs.Counts.{no_more, one_more};
-ghost use Rattle.flp_verify.specs.Numbers.{counts_in, places_in};
+ghost use Rattle.flp_verify.specs.Numbers.{counts_in, places_in, accepted_more};
 
 use flp_policy::Verdict;
 
@@ -42,5 +42,17 @@ impl Numbers {
             Verdict::Malformed { .. } => self.malformed += 1,
             Verdict::Replayed => self.replayed += 1,
         }
+    }
+}
+
+/// Counts a record of this bucket, which has this verdict, among the accepted records of each bucket.
+pub(crate) fn count_in(counts: &mut [u32], bucket: u32, verdict: Verdict)
+    requires bucket { bucket < length counts.old }
+    requires few { slice_index_or counts.old bucket 0 < 2 ^ 32 - 1 }
+    ensures size { length counts.new ≡ length counts.old }
+    ensures counted { (of : ℕ) → slice_index_or counts.new of 0 ≡ slice_index_or counts.old of 0 + accepted_more bucket verdict of }
+{
+    if verdict.is_accepted() {
+        counts[bucket as usize] += 1;
     }
 }

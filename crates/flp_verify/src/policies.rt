@@ -1,7 +1,12 @@
-//! Those who may hold the aggregate back: each is told every verdict, and then they are asked in their order.
-ghost use Rattle.std.specs.Prelude.{◌≡◌, ◌<◌, ◌^◌, ◌-◌, ℕ, ◌∷◌, map, length, not, position};
+//! Those who may hold aggregates back: each is told every verdict with its bucket, and then they are asked of each bucket, in
+//! their order.
+ghost use Rattle.std.specs.Prelude.{◌≡◌, ◌<◌, ◌≤◌, ◌^◌, ◌-◌, ℕ, ◌∷◌, map, length, not, position};
+ghost use Rattle.std.specs.List.{range_with_len};
 ghost use Rattle.flp_policy.specs.Counts.{VerdictCounts, one_more_in, no_more};
+ghost use Rattle.flp_verdict.specs.Release.{first_withheld};
+ghost use Rattle.flp_verify.specs.Counted.{withheld_by};
 
+use crate::counted::End;
 use flp_policy::{Floor, Policy, Verdict};
 
 /// Tells each of the policies the next verdict, on a report of this bucket.
@@ -46,4 +51,37 @@ fn allows(policy: &Box<dyn Policy>, bucket: u32) -> bool
     ensures { result ≡ would policy.now no_more bucket }
 {
     policy.release(bucket)
+}
+
+/// How a bucket ends that this policy does not allow to be released, or that all allow.
+fn end_by(refusal: Option<u32>) -> End
+    ensures { withheld_by result ≡ refusal }
+{
+    match refusal {
+        None => End::Released,
+        Some(policy) => End::Withheld(policy),
+    }
+}
+
+/// Asks the policies of each bucket how it ends, the floor first.
+pub(crate) fn ask_all(floor: &Floor, policies: &[Box<dyn Policy>], ends: &mut [End])
+    requires buckets { length ends.old ≤ 256 }
+    requires few { length policies.now < 2 ^ 32 - 1 }
+    ensures { map withheld_by ends.new ≡ map (λ bucket. position not (⟦<Floor as Policy>⟧.would floor.now no_more bucket ∷ map (λ p. would p no_more bucket) policies.now)) (range_with_len 0 (length ends.old)) }
+{
+    for bucket in 0..ends.len() {
+        ends[bucket] = end_by(first_refusal(floor, policies, bucket as u32));
+    }
+}
+
+/// The first of these ends that is withheld, or else released.
+pub(crate) fn first_end(ends: &[End]) -> End
+    ensures { withheld_by result ≡ first_withheld (map withheld_by ends.now) }
+{
+    for end in ends {
+        if let End::Withheld(_) = end {
+            return *end;
+        }
+    }
+    End::Released
 }
