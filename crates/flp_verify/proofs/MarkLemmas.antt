@@ -1,27 +1,25 @@
 -- Which records are replayed: one record more, and what the marks say of a batch.
-use Rattle.std.proofs.Common.{◌≡◌, ◌≢◌, ℕ, zero, suc, ◌+◌, ◌-◌, ◌*◌, ◌<◌, ◌≤◌, List, [], ◌∷◌, ◌++◌, length, map, get_or, take, set, replicate, Bool, not, Some, None, refl, sym, ap, ap₂, ◌∙◌, arith, length-append, append_assoc, append-nil}
+use Rattle.std.proofs.Common.{◌≡◌, ℕ, zero, suc, ◌+◌, ◌-◌, ◌<◌, ◌≤◌, List, [], ◌∷◌, ◌++◌, length, map, get_or, take, set, Bool, not, Some, None, refl, sym, ap, ap₂, ◌∙◌, arith, length-append, append_assoc, append-nil}
 use Rattle.std.specs.Prelude.{slice_get, if◌then◌else◌}
-use Rattle.std.proofs.lemmas.Bool.{ne_eqb}
 use Rattle.std.proofs.lemmas.List.{map-append, take_more_set}
 use Rattle.std.proofs.lemmas.List.Sums.{fold-append}
 use Rattle.std.proofs.lemmas.Option.{get_or_from_slice_get, slice_get_within}
 use Rattle.std.proofs.Math.Bool.{not-not}
 use Rattle.std.proofs.Math.Seq.{take-suc, take-append-add, get_or-append_right}
-use Rattle.flp_report.specs.Head.{number_at}
-use Rattle.flp_report.specs.Record.{nonce_in, bucket_in}
+use Rattle.flp_report.specs.Record.{nonce_in}
 use Rattle.flp_known.specs.Among.{is_among}
 use Rattle.flp_known.specs.Order.{with_nonce, with_nonces}
 use Rattle.flp_known.proofs.RisingLemmas.{is_among-with_nonces}
 use Rattle.flp_policy.specs.declared.verdict.Verdict.{Verdict}
 use Rattle.flp_policy.specs.declared.verdict.Verdict.TheVariants.{Replayed}
 use Rattle.flp_policy.specs.Verdicts.{is_accepted}
-use Rattle.flp_worker.specs.Verdict.{verdict_of, outs_in}
+use Rattle.flp_worker.specs.Verdict.{verdict_of}
 use Rattle.flp_batch.specs.Setting.{Setting}
 use Rattle.flp_verdict.specs.Verdicts.{Judged, judged_from, verdict_after}
 use Rattle.flp_verdict.specs.Laws.{report_at, verdict_at}
 use Rattle.flp_verdict.specs.Release.{known_after}
 use Rattle.flp_verdict.proofs.PlaceLemmas.{at-place}
-use Rattle.flp_round.specs.Findings.{verdicts_by, rows_by, row_with, outs_row, row_on, row_from}
+use Rattle.flp_round.specs.Findings.{verdicts_by, rows_by, outs_row, row_on, row_from}
 use Rattle.flp_verify.specs.Marks.{marks_behind}
 use Rattle.flp_verify.specs.Rows.{row_for, row_in}
 
@@ -88,36 +86,27 @@ verdicts-marked by earlier (report ∷ records) =
     (is_among-with_nonces by.claims (map nonce_in earlier) (nonce_in report))
     (ap rest (sym (knows-more by.claims earlier (report ∷ []))) ∙ verdicts-marked by (earlier ++ report ∷ []) records)
 
-module _ (by : Setting) (single : by.shape.buckets ≡ 1) (unwritten : by.shape.version ≢ 2) where
-  -- with one bucket a record's row is its outs
-  row-whole : (report : List ℕ) → outs_row by.circuit by.shape report ≡ outs_in by.circuit by.shape report
-  row-whole report =
-      let outs = outs_in by.circuit by.shape report in
-      let bucket : bucket_in by.shape report ≡ 0 = ap (λ (b : Bool). if b then number_at 16 report else 0) (ne_eqb by.shape.version 2 unwritten) in
-      let none : 0 * length outs ≡ 0 = omega arith in
-      ap₂ (λ (buckets bucket : ℕ). row_with buckets bucket outs) single bucket
-      ∙ (ap (λ (n : ℕ). replicate n 0 ++ (outs ++ replicate n 0)) none ∙ append-nil outs)
-
+module _ (by : Setting) where
   row-marked : (earlier : List (List ℕ)) (report : List ℕ)
       → row_on by.circuit by.shape (record { replayed = is_among (with_nonces by.claims (map nonce_in earlier)) (nonce_in report); report = report })
-      ≡ row_for (verdict_after by.circuit by.shape by.claims earlier report) (outs_in by.circuit by.shape report)
+      ≡ row_for (verdict_after by.circuit by.shape by.claims earlier report) (outs_row by.circuit by.shape report)
   row-marked earlier report =
-      ap₂ (λ (b : Bool) (row : List ℕ). if is_accepted (if b then Replayed else verdict_of by.circuit by.shape report) then Some row else None)
-      (is_among-with_nonces by.claims (map nonce_in earlier) (nonce_in report)) (row-whole report)
+      ap (λ (b : Bool). if is_accepted (if b then Replayed else verdict_of by.circuit by.shape report) then Some (outs_row by.circuit by.shape report) else None)
+      (is_among-with_nonces by.claims (map nonce_in earlier) (nonce_in report))
 
   rows-at : (earlier records : List (List ℕ)) (i : ℕ) → i < length records
       → get_or (rows_by by.circuit by.shape (marks_behind (with_nonces by.claims (map nonce_in earlier)) records) records) i None
-      ≡ row_for (verdict_after by.circuit by.shape by.claims (earlier ++ take i records) (get_or records i [])) (outs_in by.circuit by.shape (get_or records i []))
+      ≡ row_for (verdict_after by.circuit by.shape by.claims (earlier ++ take i records) (get_or records i [])) (outs_row by.circuit by.shape (get_or records i []))
   rows-at earlier [] i below = absurd (omega arith)
   rows-at earlier (report ∷ records) zero below =
       row-marked earlier report
-      ∙ ap (λ (l : List (List ℕ)). row_for (verdict_after by.circuit by.shape by.claims l report) (outs_in by.circuit by.shape report)) (sym (append-nil earlier))
+      ∙ ap (λ (l : List (List ℕ)). row_for (verdict_after by.circuit by.shape by.claims l report) (outs_row by.circuit by.shape report)) (sym (append-nil earlier))
   rows-at earlier (report ∷ records) (suc i) below =
       let less : i < length records = omega arith in
       let next : List (List ℕ) = earlier ++ report ∷ [] in
       ap (λ (known : List (List ℕ)). get_or (rows_by by.circuit by.shape (marks_behind known records) records) i None) (sym (knows-more by.claims earlier (report ∷ [])))
       ∙ (rows-at next records i less
-      ∙ ap (λ (l : List (List ℕ)). row_for (verdict_after by.circuit by.shape by.claims l (get_or records i [])) (outs_in by.circuit by.shape (get_or records i [])))
+      ∙ ap (λ (l : List (List ℕ)). row_for (verdict_after by.circuit by.shape by.claims l (get_or records i [])) (outs_row by.circuit by.shape (get_or records i [])))
       (append_assoc earlier (report ∷ []) (take i records)))
 
   -- and each place of the records the row that it has in the batch
@@ -136,4 +125,4 @@ module _ (by : Setting) (single : by.shape.buckets ≡ 1) (unwritten : by.shape.
       at-place by.circuit by.shape by.claims (earlier ++ records) place inside
       ∙ ap₂ (λ (l : List (List ℕ)) (r : List ℕ). verdict_after by.circuit by.shape by.claims l r) front report in
       rows-at earlier records i less
-      ∙ sym (ap₂ (λ (v : Verdict) (r : List ℕ). row_for v (outs_in by.circuit by.shape r)) verdict report)
+      ∙ sym (ap₂ (λ (v : Verdict) (r : List ℕ). row_for v (outs_row by.circuit by.shape r)) verdict report)

@@ -1,5 +1,5 @@
 -- What the runs over the segments of a batch take together, and what a seat has claimed and added that took all of them.
-use Rattle.std.proofs.Common.{◌≡◌, ◌≢◌, ℕ, ◌+◌, ◌≤◌, List, ◌++◌, length, map, Bool, sym, ap, ◌∙◌, arith}
+use Rattle.std.proofs.Common.{◌≡◌, ℕ, ◌+◌, ◌≤◌, List, ◌++◌, length, map, Bool, sym, ap, ◌∙◌, arith}
 use Rattle.flp_report.specs.Record.{nonce_in}
 use Rattle.flp_known.specs.Order.{with_nonces}
 use Rattle.flp_tally.specs.declared.view.View.{View}
@@ -16,19 +16,19 @@ use Rattle.flp_verify.proofs.MarkLemmas.{rows-marked}
 use Rattle.flp_verify.proofs.TotalLemmas.{rows_stay}
 
 -- the rows of the earlier records, and then those of the records that follow them
-pub takes-more : JoinedRuns → (by : Setting) → by.shape.buckets ≡ 1 → by.shape.version ≢ 2 → (earlier records : List (List ℕ)) (v w u : View)
+pub takes-more : JoinedRuns → (by : Setting) → (earlier records : List (List ℕ)) (v w u : View)
     → TakesRange (row_in by earlier) 0 (length earlier) v w
     → TakesRange (row_from (length earlier) (rows_by by.circuit by.shape (marks_behind (with_nonces by.claims (map nonce_in earlier)) records) records))
     (length earlier) (length earlier + length records) w u
     → TakesRange (row_in by (earlier ++ records)) 0 (length earlier + length records) v u
-takes-more join by single unwritten earlier records v w u front back =
+takes-more join by earlier records v w u front back =
     let marks : List Bool = marks_behind (with_nonces by.claims (map nonce_in earlier)) records in
     let start : 0 ≤ length earlier = omega arith in
     let end : length earlier ≤ length earlier + length records = omega arith in
     join (row_in by earlier) (row_from (length earlier) (rows_by by.circuit by.shape marks records)) (row_in by (earlier ++ records))
     0 (length earlier) (length earlier + length records) v w u start end
     (λ place from below. sym (rows_stay by earlier records place below))
-    (λ place from below. rows-marked by single unwritten earlier records place from below)
+    (λ place from below. rows-marked by earlier records place from below)
     front back
 
 -- a seat that was new has then claimed each place once and no other, and added exactly the rows of these places
