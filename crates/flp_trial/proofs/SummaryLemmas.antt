@@ -1,11 +1,16 @@
 -- A batch that lies in memory, verified and summed up: what is known of it, and why that can fail.
-use Rattle.std.proofs.Common.{◌≡◌, ◌≢◌, ℕ, ◌++◌, List, length, Option, Some, None, Result, Ok, Err, refl, sym, ap, subst, ◌∙◌, arith, append-nil}
-use Rattle.std.specs.Prelude.{IfOk, IfErr}
+use Rattle.std.proofs.Common.{◌≡◌, ◌≢◌, ℕ, ◌*◌, ◌++◌, List, [], ◌∷◌, length, Bool, Option, Some, None, Result, Ok, Err, refl, sym, ap, ap₂, subst, ◌∙◌, arith, append-nil}
+use Rattle.std.specs.Prelude.{◌==◌, if◌then◌else◌, IfOk, IfErr}
+use Rattle.std.proofs.lemmas.Bool.{ne_eqb}
+use Rattle.std.proofs.lemmas.List.{take_all}
 use Rattle.std.specs.Io.KnownBytes.{Consumes, IsAtEnd}
 use Rattle.std.proofs.lemmas.List.FromFn.{length-map-range_with_len}
 use Rattle.flp_io.specs.Faults.{Rose}
 use Rattle.flp_syntax.specs.declared.syntax.Params.{Params}
-use Rattle.flp_meaning.specs.Gadgets.{out_count}
+use Rattle.flp_report.specs.declared.shape.Shape.{Shape}
+use Rattle.flp_report.specs.Head.{number_at}
+use Rattle.flp_report.specs.Record.{bucket_in}
+use Rattle.flp_report.specs.Shape.{width_of}
 use Rattle.flp_tally.specs.declared.view.Entry.{Entry}
 use Rattle.flp_tally.specs.Rows.{total_of, AreSums}
 use Rattle.flp_batch.specs.declared.fault.EngineFault.{EngineFault}
@@ -15,24 +20,42 @@ use Rattle.flp_batch.specs.Setting.{Setting}
 use Rattle.flp_batch.specs.Format.{batches}
 use Rattle.flp_batch.specs.File.{IsBatch, IsFault, HasSetting}
 use Rattle.flp_verdict.specs.Release.{Answers}
+use Rattle.flp_verdict.specs.Verdicts.{Judged}
+use Rattle.flp_verdict.specs.Totals.{aggregate_of, of_bucket}
+use Rattle.flp_verify.specs.Text.{judged_by}
 use Rattle.flp_verify.specs.declared.counted.Counted.{Counted}
 use Rattle.flp_verify.specs.declared.counted.Summary.{Summary}
 use Rattle.flp_verify.specs.Numbers.{counts_in}
-use Rattle.flp_verify.specs.Counted.{IsSummary, totals_in}
-use Rattle.flp_verify.specs.Laws.{TotalsAreAggregate, IsCounted}
+use Rattle.flp_verify.specs.Counted.{IsSummary, words_of_bucket, totals_in}
+use Rattle.flp_verify.specs.Laws.{TotalsAreAggregates, IsCounted}
 use Rattle.flp_verify.specs.Reply.{Counts, records_on}
 use Rattle.flp_trial.specs.Summary.{Summarizes}
 
 -- ---- what is known of it
 
--- what the engine's summary says of the records that were counted
-Summarizes-counted : TotalsAreAggregate → (by : Setting) (least : ℕ) (would : Answers) (records : List (List ℕ)) (counted : Counted) (summary : Summary)
-    → IsCounted by least would records counted → AreSums counted.seat.view.added (totals_in counted) → IsSummary counted summary → Summarizes by records summary
-Summarizes-counted law by least would records counted summary is sums closed =
-    let size : length (totals_in counted) ≡ out_count by.circuit = length-map-range_with_len (λ (e : ℕ). total_of e counted.seat.view.added) 0 counted.outs ∙ is.outs in
+-- in version 1 all records are of bucket 0
+all-there : (shape : Shape) (js : List Judged) → shape.version ≢ 2 → of_bucket shape 0 js ≡ js
+all-there shape [] other = refl
+all-there shape (j ∷ js) other =
+    let rest = all-there shape js other in
+    let none : bucket_in shape j.report ≡ 0 = ap (λ (b : Bool). if b then number_at 16 j.report else 0) (ne_eqb shape.version 2 other) in
+    ap (λ (n : ℕ). if 0 == n then j ∷ of_bucket shape 0 js else of_bucket shape 0 js) none ∙ ap (λ (l : List Judged). j ∷ l) rest
+
+-- what the engine's summary says of the records that were counted, where the batch is of version 1
+Summarizes-counted : TotalsAreAggregates → (by : Setting) (least : ℕ) (would : Answers) (records : List (List ℕ)) (counted : Counted) (summary : Summary)
+    → (by.shape.version ≢ 2) × (by.shape.buckets ≡ 1) → IsCounted by least would records counted → AreSums counted.seat.view.added (totals_in counted) → IsSummary counted summary → Summarizes by records summary
+Summarizes-counted law by least would records counted summary one is sums closed =
+    let totals = totals_in counted in
+    let n = by.shape.outs in
+    let js = judged_by by records in
+    let wide : counted.buckets * counted.outs ≡ width_of by.shape = ap₂ (λ (a b : ℕ). a * b) is.buckets is.outs.0 in
+    let size : length totals ≡ width_of by.shape = length-map-range_with_len (λ (e : ℕ). total_of e counted.seat.view.added) 0 (counted.buckets * counted.outs) ∙ wide in
+    let single : width_of by.shape ≡ n = ap (λ (k : ℕ). k * n) one.1 ∙ omega arith in
+    let all : words_of_bucket n 0 totals ≡ totals = take_all n totals (omega (arith, size, single)) in
+    let found = law by records counted.seat.view.claimed totals is.outs.1 is.once (subst (λ (es : List Entry). AreSums es totals) is.rows sums) size 0 (omega (arith, one.1)) in
     record {
       numbers = ap counts_in closed.numbers ∙ is.numbers;
-      totals = closed.totals ∙ law by records counted.seat.view.claimed (totals_in counted) is.once (subst (λ (es : List Entry). AreSums es (totals_in counted)) is.rows sums) size;
+      totals = closed.totals ∙ (sym all ∙ (found ∙ ap (aggregate_of by.circuit by.shape) (all-there by.shape js one.0)));
     }
 
 -- bytes that were read to their end are all that there were
@@ -50,14 +73,14 @@ abbrev pub NoBatchHasFault : Type 0
 NoBatchHasFault = (bytes : List ℕ) (params : Option Params) (setting : Setting) (fault : EngineFault) → IsBatch None bytes params setting → IsFault (batches None) bytes fault → ⊥
 
 -- of a batch with this setting, where it is the whole input
-pub summary-of : SettingIsOne → TotalsAreAggregate → (bytes : List ℕ) (params : Option Params) (by : Setting) (least : ℕ) (would asked : Answers) (counted : Counted) (summary : Summary)
-    (left' taken taken' : Option (List ℕ)) → IsBatch None bytes params by → Counts least would asked counted (Some bytes) left' taken taken'
+pub summary-of : SettingIsOne → TotalsAreAggregates → (bytes : List ℕ) (params : Option Params) (by : Setting) (least : ℕ) (would asked : Answers) (counted : Counted) (summary : Summary)
+    (left' taken taken' : Option (List ℕ)) → IsBatch None bytes params by → (by.shape.version ≢ 2) × (by.shape.buckets ≡ 1) → Counts least would asked counted (Some bytes) left' taken taken'
     → AreSums counted.seat.view.added (totals_in counted) → IsSummary counted summary → Summarizes by (records_on bytes by) summary
-summary-of one law bytes params by least would asked counted summary left' taken taken' is all sums closed =
+summary-of one law bytes params by least would asked counted summary left' taken taken' is single all sums closed =
     let whole = all.whole in
     let read : whole.bytes ≡ bytes = whole-read bytes whole.bytes left' whole.read whole.ended in
     let same : whole.setting ≡ by = (one bytes whole.params params whole.setting by (subst (λ (b : List ℕ). HasSetting (batches None) b whole.params whole.setting) read whole.is_batch.has) is.has).1 in
-    let made : Summarizes whole.setting (records_on whole.bytes whole.setting) summary = Summarizes-counted law whole.setting least would (records_on whole.bytes whole.setting) counted summary all.counted_is sums closed in
+    let made : Summarizes whole.setting (records_on whole.bytes whole.setting) summary = Summarizes-counted law whole.setting least would (records_on whole.bytes whole.setting) counted summary (subst (λ (x : Setting). (x.shape.version ≢ 2) × (x.shape.buckets ≡ 1)) (sym same) single) all.counted_is sums closed in
     subst (λ (s : Setting). Summarizes s (records_on bytes s) summary) same (subst (λ (b : List ℕ). Summarizes whole.setting (records_on b whole.setting) summary) read made)
 
 -- the summary that closing the tally answers

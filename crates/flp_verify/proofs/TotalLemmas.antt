@@ -24,8 +24,8 @@ use Rattle.flp_verdict.specs.Laws.{report_at, verdict_at}
 use Rattle.flp_verdict.proofs.PlaceLemmas.{at-place}
 use Rattle.flp_verify.specs.Text.{judged_by}
 use Rattle.flp_verify.specs.Rows.{row_for, row_in}
-use Rattle.flp_verify.specs.Counted.{totals_of}
-use Rattle.flp_verify.specs.Laws.{TotalsAreAggregate, RowsStay}
+use Rattle.flp_verify.specs.Counted.{totals_of, words_of_bucket}
+use Rattle.flp_verify.specs.Laws.{TotalsAreAggregates, RowsStay}
 
 -- words that are the totals of entries, as many as there are elements
 pub totals-listed : (elements : ℕ) (added : List Entry) (totals : List ℕ) → AreTotals added totals → length totals ≡ elements → totals ≡ totals_of elements added
@@ -59,20 +59,92 @@ pub reports-judged : (program : Program) (shape : Shape) (claims earlier reports
 reports-judged program shape claims earlier [] = refl
 reports-judged program shape claims earlier (r ∷ reports) = ap (λ (l : List (List ℕ)). r ∷ l) (reports-judged program shape claims (earlier ++ r ∷ []) reports)
 
-pub totals_are_aggregate : RowSums → TotalsAreAggregate
-totals_are_aggregate sums by reports places totals once are size =
-    let outs : List ℕ → List ℕ = outs_in by.circuit by.shape in
+-- ---- the words of one bucket
+
+-- zeros wherever they are asked for
+zero-at : (n i : ℕ) → get_or (replicate n 0) i 0 ≡ 0
+zero-at n i =
+    ⊎_elim (λ (below : i < n). get_or-replicate n i 0 0 below) (λ (past : n ≤ i). get_or_past (replicate n 0) i 0 (omega (arith, length-replicate n 0))) (cases_lt i n)
+
+-- a word of a row in the places of a bucket: that of the outs, or 0 where the row has another bucket
+row-word : (buckets bucket k n e : ℕ) (outs : List ℕ) → length outs ≡ n → e < n → get_or (row_with buckets bucket outs) (k * n + e) 0 ≡ (if k == bucket then get_or outs e 0 else 0)
+row-word buckets bucket k n e outs size below =
+    let front : List ℕ = replicate (bucket * length outs) 0 in
+    let back : List ℕ = replicate ((buckets - (bucket + 1)) * length outs) 0 in
+    let wide : length front ≡ bucket * n = length-replicate (bucket * length outs) 0 ∙ ap (λ (m : ℕ). bucket * m) size in
+    let place = k * n + e in
+    ⊎_elim
+    (λ (is : (k == bucket) ≡ true).
+    let same : k * n ≡ bucket * n = ap (λ (m : ℕ). m * n) (eqb-true k bucket is) in
+    let inner : place - length front ≡ e = omega (arith, same, wide) in
+    rw is
+    (get_or-append_right front (outs ++ back) place 0 (omega (arith, same, wide))
+    ∙ (ap (λ (m : ℕ). get_or (outs ++ back) m 0) inner ∙ get_or_append_left outs back 0 e (omega (arith, size, below)))))
+    (λ (is : (k == bucket) ≡ false).
+    rw is
+    (⊎_elim
+    (λ (less : k < bucket).
+    let one : (k + 1) * n ≤ bucket * n = mul-le-mul_right n less in
+    let step : (k + 1) * n ≡ k * n + n = omega arith in
+    get_or_append_left front (outs ++ back) 0 place (omega (arith, one, step, wide, below)) ∙ zero-at (bucket * length outs) place)
+    (λ (least : bucket ≤ k).
+    let other : k ≡ bucket → ⊥ = λ same. (let yes : (k == bucket) ≡ true = eq-eqb k bucket same in let no : ⊥ = cc (yes, is) in no) in
+    let more : bucket + 1 ≤ k = omega (arith, least, other) in
+    let one : (bucket + 1) * n ≤ k * n = mul-le-mul_right n more in
+    let step : (bucket + 1) * n ≡ bucket * n + n = omega arith in
+    get_or-append_right front (outs ++ back) place 0 (omega (arith, one, step, wide))
+    ∙ (get_or-append_right outs back (place - length front) 0 (omega (arith, one, step, wide, size))
+    ∙ zero-at ((buckets - (bucket + 1)) * length outs) (place - length front - length outs)))
+    (cases_lt k bucket)))
+    (cases_Bool (k == bucket))
+
+-- the words of all rows at a bucket's places sum up to those of the outs of the bucket's records
+module _ (program : Program) (shape : Shape) (k n e : ℕ) (size : (r : List ℕ) → length (outs_in program shape r) ≡ n) (below : e < n) where
+  one-row : (j : Judged) (js : List Judged) (b a : Bool) → (k == bucket_in shape j.report) ≡ b → is_accepted j.verdict ≡ a
+      → total_at (map (outs_row program shape) (accepted_in js)) (k * n + e) ≡ total_at (map (outs_in program shape) (accepted_in (of_bucket shape k js))) e
+      → total_at (map (outs_row program shape) (accepted_in (j ∷ js))) (k * n + e) ≡ total_at (map (outs_in program shape) (accepted_in (of_bucket shape k (j ∷ js)))) e
+  one-row j js true true mine counts rest =
+      let word : get_or (outs_row program shape j.report) (k * n + e) 0 ≡ get_or (outs_in program shape j.report) e 0 =
+      row-word shape.buckets (bucket_in shape j.report) k n e (outs_in program shape j.report) (size j.report) below ∙ rw mine refl in
+      rw (mine, counts)
+      (total_at-cons (outs_row program shape j.report) (map (outs_row program shape) (accepted_in js)) (k * n + e)
+      ∙ (ap₂ (λ (x y : ℕ). x + y) word rest
+      ∙ sym (total_at-cons (outs_in program shape j.report) (map (outs_in program shape) (accepted_in (of_bucket shape k js))) e)))
+  one-row j js true false mine counts rest = rw (mine, counts) rest
+  one-row j js false true mine counts rest =
+      let word : get_or (outs_row program shape j.report) (k * n + e) 0 ≡ 0 =
+      row-word shape.buckets (bucket_in shape j.report) k n e (outs_in program shape j.report) (size j.report) below ∙ rw mine refl in
+      rw (mine, counts)
+      (total_at-cons (outs_row program shape j.report) (map (outs_row program shape) (accepted_in js)) (k * n + e)
+      ∙ (ap₂ (λ (x y : ℕ). x + y) word rest ∙ zero-add (total_at (map (outs_in program shape) (accepted_in (of_bucket shape k js))) e)))
+  one-row j js false false mine counts rest = rw (mine, counts) rest
+
+  bucket-total : (js : List Judged) → total_at (map (outs_row program shape) (accepted_in js)) (k * n + e) ≡ total_at (map (outs_in program shape) (accepted_in (of_bucket shape k js))) e
+  bucket-total [] = refl
+  bucket-total (j ∷ js) = one-row j js (k == bucket_in shape j.report) (is_accepted j.verdict) refl refl (bucket-total js)
+
+pub totals_are_aggregates : RowSums → TotalsAreAggregates
+totals_are_aggregates sums by reports places totals outs_are once are size bucket inside =
+    let row : List ℕ → List ℕ = outs_row by.circuit by.shape in
     let js : List Judged = judged_by by reports in
+    let n = by.shape.outs in
+    let own : (r : List ℕ) → length (outs_in by.circuit by.shape r) ≡ n = λ r. length-outs_in by.circuit by.shape r ∙ sym outs_are in
     let same : map (λ (j : Judged). j.report) js ≡ reports = reports-judged by.circuit by.shape by.claims [] reports in
     let long : length reports - 0 ≡ length js = omega (arith, ap (λ (l : List (List ℕ)). length l) same, length-map js (λ (j : Judged). j.report)) in
-    sum_of_lists_from (out_count by.circuit) totals (map outs (accepted_in js)) size
-    (λ (e : ℕ) (below : e < out_count by.circuit).
-    let word : List (List ℕ) → ℕ → ℕ = λ l i. word_of (row_for (get_or (map (λ (j : Judged). j.verdict) js) i Replayed) (outs (get_or l i []))) e in
-    are (rows_of (row_in by reports) places) refl e (omega arith)
-    ∙ ap (λ (n : ℕ). n % modulus)
-    (sums (row_in by reports) 0 (length reports) places e once
-    ∙ (ap (λ (n : ℕ). sum_by (word reports) (range_with_len 0 n)) long
-    ∙ (ap (λ (l : List (List ℕ)). sum_by (word l) (range_with_len 0 (length js))) (sym same) ∙ places-sum outs e js))))
+    let next : (bucket + 1) * n ≤ by.shape.buckets * n = mul-le-mul_right n inside in
+    let step : (bucket + 1) * n ≡ bucket * n + n = omega arith in
+    let fits : n ≤ length (drop (bucket * n) totals) = omega (arith, length-drop (bucket * n) totals, size, next, step) in
+    sum_of_lists_from n (words_of_bucket n bucket totals) (map (outs_in by.circuit by.shape) (accepted_in (of_bucket by.shape bucket js))) (length-take-le n (drop (bucket * n) totals) fits)
+    (λ (e : ℕ) (below : e < n).
+    let word : List (List ℕ) → ℕ → ℕ = λ l i. word_of (row_for (get_or (map (λ (j : Judged). j.verdict) js) i Replayed) (row (get_or l i []))) (bucket * n + e) in
+    get_or-words_at (bucket * n) n e totals below
+    ∙ (are (rows_of (row_in by reports) places) refl (bucket * n + e) (omega (arith, size, next, step))
+    ∙ ap (λ (m : ℕ). m % modulus)
+    (sums (row_in by reports) 0 (length reports) places (bucket * n + e) once
+    ∙ (ap (λ (m : ℕ). sum_by (word reports) (range_with_len 0 m)) long
+    ∙ (ap (λ (l : List (List ℕ)). sum_by (word l) (range_with_len 0 (length js))) (sym same)
+    ∙ (places-sum row (bucket * n + e) js ∙ bucket-total by.circuit by.shape bucket n e own below js))))))
+    ∙ ap (λ (m : ℕ). sum_of_lists m (map (outs_in by.circuit by.shape) (accepted_in (of_bucket by.shape bucket js)))) outs_are
 
 pub rows_stay : RowsStay
 rows_stay by reports more place below =
@@ -83,4 +155,4 @@ rows_stay by reports more place below =
     at-place by.circuit by.shape by.claims (reports ++ more) place inside
     ∙ (ap₂ (λ (l : List (List ℕ)) (r : List ℕ). verdict_after by.circuit by.shape by.claims l r) earlier report
     ∙ sym (at-place by.circuit by.shape by.claims reports place below)) in
-    ap₂ (λ (v : Verdict) (r : List ℕ). row_for v (outs_in by.circuit by.shape r)) verdict report
+    ap₂ (λ (v : Verdict) (r : List ℕ). row_for v (outs_row by.circuit by.shape r)) verdict report

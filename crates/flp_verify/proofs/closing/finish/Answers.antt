@@ -5,7 +5,7 @@ use Rattle.flp_known.specs.Known.{known_in}
 use Rattle.flp_tally.specs.Rows.{AreSums}
 use Rattle.flp_verdict.specs.Release.{ending_by}
 use Rattle.flp_verify.specs.declared.counted.Counted.{Counted}
-use Rattle.flp_verify.specs.Counted.{withheld_by, totals_of, totals_in}
+use Rattle.flp_verify.specs.Counted.{closing_by, totals_of, totals_in}
 use Rattle.flp_verify.proofs.closing.finish.Goals as goal
 
 -- the words that a tally was closed into
@@ -16,21 +16,21 @@ pub returns-in-Err-clause-front : goal.returns-in-Err-clause-front
 returns-in-Err-clause-front g c =
     let counted = c.args.counted in
     let same = c.as_slice.ensures.value ∙ are-totals counted c.close_into.ensures.totals in
-    subst (λ (l : List ℕ). TakesPrefix (g.K.Sink.taken c.args.output.now) (g.K.Sink.taken c.write_ending.new.sink) (ending_by counted.numbers.accepted (withheld_by counted.end) l c.args.claims (known_in counted.known)))
+    subst (λ (l : List ℕ). TakesPrefix (g.K.Sink.taken c.args.output.now) (g.K.Sink.taken c.write_ending.new.sink) (ending_by counted.version counted.buckets counted.numbers.accepted (closing_by counted.outs counted.counts counted.ends l) c.args.claims (known_in counted.known)))
     same c.in-Err.ensures.front
 
 pub returns-clause-front : goal.returns-clause-front
 returns-clause-front g c =
     let counted = c.args.counted in
     let same = c.as_slice.ensures.value ∙ are-totals counted c.close_into.ensures.totals in
-    subst (λ (l : List ℕ). TakesPrefix (g.K.Sink.taken c.args.output.now) (g.K.Sink.taken c.write_ending.new.sink) (ending_by counted.numbers.accepted (withheld_by counted.end) l c.args.claims (known_in counted.known)))
+    subst (λ (l : List ℕ). TakesPrefix (g.K.Sink.taken c.args.output.now) (g.K.Sink.taken c.write_ending.new.sink) (ending_by counted.version counted.buckets counted.numbers.accepted (closing_by counted.outs counted.counts counted.ends l) c.args.claims (known_in counted.known)))
     same c.in-Ok.ensures.front
 
 pub returns-clause-written : goal.returns-clause-written
 returns-clause-written g c =
     let counted = c.args.counted in
     let same = c.as_slice.ensures.value ∙ are-totals counted c.close_into.ensures.totals in
-    subst (λ (l : List ℕ). Appends (g.K.Sink.taken c.args.output.now) (g.K.Sink.taken c.write_ending.new.sink) (ending_by counted.numbers.accepted (withheld_by counted.end) l c.args.claims (known_in counted.known)))
+    subst (λ (l : List ℕ). Appends (g.K.Sink.taken c.args.output.now) (g.K.Sink.taken c.write_ending.new.sink) (ending_by counted.version counted.buckets counted.numbers.accepted (closing_by counted.outs counted.counts counted.ends l) c.args.claims (known_in counted.known)))
     same c.in-Ok.ensures.whole
 
 pub returns-clause-summary : goal.returns-clause-summary

@@ -8,20 +8,23 @@ use Rattle.flp_verify.proofs.ending.put_ending.Goals as goal
 pub returns-in_err-put_number_line : goal.returns-in_err-put_number_line
 returns-in_err-put_number_line g c =
     let count = count_line c.args.ending.now.accepted in
-    let release = release_line (withheld_by c.args.ending.now.end) c.args.ending.now.aggregate.now in
-    Puts-short (count ++ release) (claims_out c.args.ending.now.claims (known_in c.args.ending.now.known.now))
-    (Puts-short {s = c.from_residual.result} count release c.in_err-put_number_line.ensures refl c.from_residual.ensures.0) c.from_residual.ensures.0 c.from_residual.ensures.0
+    let e = c.args.ending.now in
+    let lines = bucket_lines e.version e.buckets (closing_by e.outs e.counts.now e.ends.now e.totals.now) in
+    Puts-short (count ++ lines) (claims_out c.args.ending.now.claims (known_in c.args.ending.now.known.now))
+    (Puts-short {s = c.from_residual.result} count lines c.in_err-put_number_line.ensures refl c.from_residual.ensures.0) c.from_residual.ensures.0 c.from_residual.ensures.0
 
-pub returns-in_err-put_release : goal.returns-in_err-put_release
-returns-in_err-put_release g c =
+pub returns-in_err-put_buckets : goal.returns-in_err-put_buckets
+returns-in_err-put_buckets g c =
     let count = count_line c.args.ending.now.accepted in
-    let release = release_line (withheld_by c.args.ending.now.end) c.args.ending.now.aggregate.now in
-    Puts-short (count ++ release) (claims_out c.args.ending.now.claims (known_in c.args.ending.now.known.now))
-    (Puts-after count release c.in_ok-put_number_line.ensures refl c.in_err-put_release.ensures) refl c.from_residual-in_err-put_release.ensures.0
+    let e = c.args.ending.now in
+    let lines = bucket_lines e.version e.buckets (closing_by e.outs e.counts.now e.ends.now e.totals.now) in
+    Puts-short (count ++ lines) (claims_out c.args.ending.now.claims (known_in c.args.ending.now.known.now))
+    (Puts-after count lines c.in_ok-put_number_line.ensures refl c.in_err-put_buckets.ensures) refl c.from_residual-in_err-put_buckets.ensures.0
 
 pub returns : goal.returns
 returns g c =
     let count = count_line c.args.ending.now.accepted in
-    let release = release_line (withheld_by c.args.ending.now.end) c.args.ending.now.aggregate.now in
-    Puts-after (count ++ release) (claims_out c.args.ending.now.claims (known_in c.args.ending.now.known.now))
-    (Puts-after count release c.in_ok-put_number_line.ensures refl c.in_ok-put_release.ensures) refl c.put_claims_out.ensures
+    let e = c.args.ending.now in
+    let lines = bucket_lines e.version e.buckets (closing_by e.outs e.counts.now e.ends.now e.totals.now) in
+    Puts-after (count ++ lines) (claims_out c.args.ending.now.claims (known_in c.args.ending.now.known.now))
+    (Puts-after count lines c.in_ok-put_number_line.ensures refl c.in_ok-put_buckets.ensures) refl c.put_claims_out.ensures

@@ -87,6 +87,8 @@ returns-in-Ok-clause-between g c =
       };
       board = verified.board;
       places = c.tell_segment.ensures.places ∙ ap (λ (n : ℕ). n + c.args.count) before.places;
+      buckets = search (rules, before.buckets);
+      low = search rules;
       free = verified.free;
     }
 
@@ -103,13 +105,15 @@ returns-in-Ok-clause-advances g c =
     let whole : length c.mark.new.marks ≡ c.args.room.now.marks.len = omega (arith, c.in_ok-mark.ensures.size, ap length c.deref_mut.ensures.value, c.args.room.now.marks.ok.0) in
     let marked = marks-are c.args.room.now.marks c.args.count _ _ (known_in old.known) records whole c.deref.ensures.value c.in_ok-mark.ensures.marked in
     let found = are-found front c.args.room.now.marks c.args.count _ _ _ _ _ whole c.deref.ensures.value c.in_ok-mark.ensures.marked verified.verdicts in
+    let told_beside : beside records c.tell_segment.crew ≡ found_beside front (known_in old.known) records = ap (beside records) found in
     let P : ℕ → View → List Bool → Type 0 = λ n v m. TakesRange (row_from c.args.first (rows_by plan.circuit front.shape m records)) c.args.first (c.args.first + n) v c.verify_round-board.result.seat.view in
     let lets : List ℕ → VerdictCounts → ℕ → Bool = λ needed more of. nat_le (get_or needed of 0) more.accepted in
     record {
       known = c.in_ok-mark.ensures.known;
       counts = λ before is. told.counted before is ∙ ap (λ (l : List Verdict). counts_of (before ++ l)) found;
-      floor = subst (λ (l : List Verdict). AreTold {B = Bool} 0 l (lets old.floor.needed) (lets c.tell_segment.new.floor.needed)) found told.floor;
-      answers = subst (λ (l : List Verdict). AreTold {B = List Bool} 0 l (λ more of. map (λ p. (goal.Policy-dyn g (p.vtable, p.value)).would p.value more of) c.args.policies.now) (λ more of. map (λ p. (goal.Policy-dyn g (p.vtable, p.value)).would p.value more of) c.tell_segment.new.policies)) found told.policies;
+      accepted = λ bucket. search rules;
+      floor = subst (λ (l : List Judged). AreTold {B = Bool} front.shape l (lets old.floor.needed) (lets c.tell_segment.new.floor.needed)) told_beside told.floor;
+      answers = subst (λ (l : List Judged). AreTold {B = List Bool} front.shape l (λ more of. map (λ p. (goal.Policy-dyn g (p.vtable, p.value)).would p.value more of) c.args.policies.now) (λ more of. map (λ p. (goal.Policy-dyn g (p.vtable, p.value)).would p.value more of) c.tell_segment.new.policies)) told_beside told.policies;
       view = subst (λ (n : ℕ). P n (seen_by front old.board) (marks_behind (known_in old.known) records)) (sym number)
           (subst (λ (v : View). P c.args.count v (marks_behind (known_in old.known) records)) seen
           (subst (λ (m : List Bool). P c.args.count c.in_ok-board.board.seat.view m) marked verified.taken));

@@ -1,6 +1,5 @@
 use Rattle.std.proofs.Common.{◌≡◌, ◌∙◌, ℕ, map, get_or, Err, arith, ap, sym, subst, refl}
 use Rattle.std.specs.Prelude.{nat_le}
-use Rattle.flp_report.specs.Shape.{bytes_of}
 use Rattle.flp_report.specs.Segment.{held_in, records_in}
 use Rattle.flp_report.specs.Reader.{source_of}
 use Rattle.flp_batch.proofs.AmongLemmas.{Fails-breaks, Ends-fails, Ends-lines, Judges-ended, Breaks-ended, Ends-ended}
@@ -18,8 +17,8 @@ loop-settled-init g c =
     record {
       number = refl;
       among = among-none c.args.reader.now front.header front.shape c.requires.ready;
-      between = none-free front c.args.room.now c.args.ledger.now c.requires.room c.requires.new.0 c.requires.new.1;
-      all = Judges-none (bytes_of front.shape) _ _ (g.S.Source.left (source_of c.args.reader.now)) (g.K.Sink.taken c.args.output.now) (behind-none c.nothing_is_taken.ensures front _ c.requires.new.0);
+      between = none-free front c.args.room.now c.args.ledger.now c.requires.room c.requires.new.0 c.requires.new.1 c.requires.new.2 c.requires.buckets;
+      all = Judges-none front.shape _ _ (g.S.Source.left (source_of c.args.reader.now)) (g.K.Sink.taken c.args.output.now) (behind-none c.nothing_is_taken.ensures front _ c.requires.new.0 c.requires.new.2);
       same = refl;
       readable = c.requires.streams.0;
       writable = c.requires.streams.1;
@@ -43,6 +42,8 @@ pass_segment-requires-clause-between g c κs within =
       };
       board = before.board;
       places = before.places;
+      buckets = before.buckets;
+      low = before.low;
       free = before.free;
     }
 
@@ -52,7 +53,6 @@ loop-settled-preserved g c =
     let read = c.in-Ok.ensures in
     let passed = c.in_default.ensures in
     let front = c.args.front.now in
-    let size = bytes_of front.shape in
     let i = c.loop-settled.settled in
     let room = c.read_segment.new.room in
     let start = standing front c.args.ledger.now (λ more of. nat_le (get_or c.args.ledger.now.floor.needed of 0) more.accepted) (λ more of. map (λ p. (goal.Policy-dyn g (p.vtable, p.value)).would p.value more of) c.args.policies.now) in
@@ -62,8 +62,8 @@ loop-settled-preserved g c =
       number = before.number;
       among = read.among.1;
       between = passed.between;
-      all = Judges-more size i c.in-Ok.count _ _ (IsBehind front start new) _ _ _ _ _ _ (held_in room) (records_in room) (Judges-counted size i _ _ _ _ _ _ before.all) read.holds.1 read.records
-          (λ earlier p. segment-judges c.runs_join.ensures front start old new earlier (records_in room) _ _ front.bucket front.other p.1
+      all = Judges-more front.shape i c.in-Ok.count _ _ (IsBehind front start new) _ _ _ _ _ _ (held_in room) (records_in room) (Judges-counted front.shape i _ _ _ _ _ _ before.all) read.holds.1 read.buckets read.records
+          (λ earlier p. segment-judges c.runs_join.ensures front start old new earlier (records_in room) _ _ p.1
           (subst (λ (k : ℕ). Advances front k old new (records_in room)) (sym p.0) passed.advances) passed.written);
       same = read.same ∙ before.same;
       readable = read.source.again refl;
@@ -92,7 +92,7 @@ returns-in-Err-pass_segment-clause-breaks g c =
     let front = c.args.front.now in
     let room = c.read_segment.new.room in
     write-breaks front.shape front.header.reports c.loop-settled.settled c.in-Ok.count _ _ _ _ _ _ _ _ (held_in room) (records_in room) c.in-Err-pass_segment.fault
-    before.all read.among.1.within read.holds.1 read.records passed.cause
+    before.all read.among.1.within read.holds.1 read.buckets read.records passed.cause
     (λ earlier p. segment-front front _ _ earlier (records_in room) _ _ p passed.front)
 
 pub returns-in-Err-pass_segment-clause-ends : goal.returns-in-Err-pass_segment-clause-ends

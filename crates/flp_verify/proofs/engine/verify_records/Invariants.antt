@@ -1,6 +1,5 @@
 use Rattle.std.proofs.Common.{◌≡◌, ◌-◌, ◌≤◌, map, get_or}
 use Rattle.std.specs.Prelude.{nat_le}
-use Rattle.flp_report.specs.Shape.{bytes_of}
 use Rattle.flp_report.specs.Reader.{source_of, SameLoan}
 use Rattle.flp_known.specs.Known.{known_in}
 use Rattle.flp_batch.specs.Among.{IsAmong}
@@ -14,7 +13,7 @@ invariant-loop-settled g l = record {
   number : l.reports ≡ l.front.header.reports;
   among : IsAmong l.reader l.front.header l.front.shape l.settled;
   between : IsBetween l.front l.settled l.room l.ledger;
-  all : Judges (bytes_of l.front.shape) l.settled (verdict_line (setting_with l.front (known_in l.initial.ledger.known)))
+  all : Judges l.front.shape l.settled (verdict_line (setting_with l.front (known_in l.initial.ledger.known)))
       (IsBehind l.front
       (standing l.front l.initial.ledger (λ more of. nat_le (get_or l.initial.ledger.floor.needed of 0) more.accepted) (λ more of. map (λ p. (goal.Policy-dyn g (p.vtable, p.value)).would p.value more of) l.initial.policies))
       (standing l.front l.ledger (λ more of. nat_le (get_or l.ledger.floor.needed of 0) more.accepted) (λ more of. map (λ p. (goal.Policy-dyn g (p.vtable, p.value)).would p.value more of) l.policies)))
