@@ -183,7 +183,8 @@ impl Watch {
     /// Whether what was counted is due to a run on these words that ended so.
     ///
     /// No policy is kept. `verify` and `trial` alone pass the gate, at which the workers meet. `verify` alone tells and asks
-    /// policies; where it ends well, it tells each as many verdicts as it writes lines of reports, and asks it once at most.
+    /// policies; where it ends well, it tells each as many verdicts as it writes lines of reports, and asks it once at most of
+    /// each bucket.
     pub fn is_due(&self, words: &[&str], status: u8, output: &[u8]) -> bool {
         if !self.is_alone() {
             return false;
@@ -191,7 +192,8 @@ impl Watch {
         match words.get(1).copied() {
             Some("verify") if status != USAGE => {
                 let ends_well = status == 0 || status == WITHHELD;
-                self.gate.is_met() && (!ends_well || self.has_heard(verdicts(output), 1))
+                self.gate.is_met()
+                    && (!ends_well || self.has_heard(verdicts(output), buckets(output)))
             }
             Some("trial") if status != USAGE => self.has_heard(0, 0) && self.gate.is_met(),
             _ => self.has_heard(0, 0) && self.gate.is_unpassed(),
@@ -209,6 +211,17 @@ fn verdicts(output: &[u8]) -> u64 {
         count = count.saturating_add(1);
     }
     count
+}
+
+/// How many buckets there are: each has a line of its own, but where there is one it need not be named.
+fn buckets(output: &[u8]) -> u64 {
+    let mut count = 0u64;
+    for line in output.split(|byte| *byte == b'\n') {
+        if line.starts_with(b"bucket ") {
+            count = count.saturating_add(1);
+        }
+    }
+    count.max(1)
 }
 
 /// Whether it is seen where a policy is kept, told or asked, or the gate is passed.
