@@ -50,6 +50,15 @@ count_of-joined shape bucket xs ys =
     ∙ (ap (λ (l : List (List ℕ)). length l) (map-append (λ (j : Judged). j.report) front back)
     ∙ length-append (map (λ (j : Judged). j.report) front) (map (λ (j : Judged). j.report) back)))
 
+-- at most one
+one-most : (b a : Bool) → (if b then (if a then 1 else 0) else 0) ≤ 1
+one-most true true = omega arith
+one-most true false = omega arith
+one-most false a = omega arith
+
+pub accepted_most : (bucket : ℕ) (verdict : Verdict) (of : ℕ) → accepted_more bucket verdict of ≤ 1
+accepted_most bucket verdict of = one-most (of == bucket) (is_accepted verdict)
+
 -- one record is counted where it is accepted and of this bucket
 one-counted : (j : Judged) (b a : Bool) → is_accepted j.verdict ≡ a → (if b then (if is_accepted j.verdict then 1 else 0) else 0) ≡ count_of (if b then j ∷ [] else [])
 one-counted j true true is = rw is refl

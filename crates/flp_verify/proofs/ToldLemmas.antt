@@ -1,9 +1,14 @@
 -- Lists whose elements are told something one after another, by what a test says of each.
-use Rattle.std.proofs.Common.{◌≡◌, ℕ, zero, suc, ◌+◌, ◌<◌, ◌≤◌, List, ◌∷◌, length, get_or, map, set, Bool, true, false, not, cond, ltb, Some, None, sym, refl, ap, ◌∙◌, arith, get_or-set_same, get_or-set_other, length-set, lt-ltb}
+use Rattle.std.proofs.Common.{◌≡◌, ℕ, zero, suc, ◌+◌, ◌<◌, ◌≤◌, List, [], ◌∷◌, ◌++◌, length, get_or, map, set, take, drop, Option, Bool, true, false, not, cond, ltb, Some, None, sym, refl, ap, ◌∙◌, arith, get_or-set_same, get_or-set_other, length-set, lt-ltb}
 use Rattle.std.specs.Prelude.{position}
-use Rattle.std.specs.List.{position_or_len}
+use Rattle.std.specs.List.{position_or_len, range_with_len}
 use Rattle.std.proofs.lemmas.Bool.Decides.{nat_tests}
-use Rattle.std.proofs.lemmas.List.{get_or-map, length-map, map-set, ext_get_or}
+use Rattle.std.proofs.lemmas.List.{get_or-map, length-map, map-append, map-set, ext_get_or, take_more, take-append-drop}
+use Rattle.std.proofs.lemmas.List.FromFn.{fill_by_all}
+use Rattle.flp_verdict.specs.Release.{first_withheld}
+use Rattle.flp_verify.specs.declared.counted.End.{End}
+use Rattle.flp_verify.specs.declared.counted.End.TheVariants.{Released, Withheld}
+use Rattle.flp_verify.specs.Counted.{withheld_by}
 use Rattle.std.proofs.lemmas.List.Sums.{position_or_len_is}
 use mathlib.Core.Logic.{dite}
 use native.Mathlib.Decide.{ℕ_discrete}
@@ -84,3 +89,52 @@ module _ {A : Type 0} (test : A → Bool) where
       let at : position_or_len not whole ≡ length whole =
       position_or_len_is not whole (length whole) true (omega arith) (λ k h. passes-behind first xs i pass p k (omega arith)) (λ h. absurd (omega arith)) in
       sym (ap (λ (n : ℕ). cond (ltb n (length whole)) (Some n) None) at ∙ ap (λ (b : Bool). cond b (Some (length whole)) None) (none-below (length whole)))
+
+-- ---- the ends of buckets
+
+-- one bucket more was asked
+pub asked-more : (f : ℕ → Option ℕ) (ends : List End) (i : ℕ) (end : End) → i < length ends → withheld_by end ≡ f i → ((k : ℕ) → k < i → withheld_by (get_or ends k Released) ≡ f k)
+    → (k : ℕ) → k < i + 1 → withheld_by (get_or (set ends i end) k Released) ≡ f k
+asked-more f ends i end inside is so k below = dite (ℕ_discrete k i)
+    (λ here. ap (λ (j : ℕ). withheld_by (get_or (set ends i end) j Released)) here ∙ (ap withheld_by (get_or-set_same ends i end Released inside) ∙ (is ∙ ap f (sym here))))
+    (λ ne. ap withheld_by (get_or-set_other ends i k end Released ne) ∙ so k (omega arith))
+
+-- all of them were
+pub asked-all : (f : ℕ → Option ℕ) (ends : List End) (buckets : ℕ) → length ends ≡ buckets → ((k : ℕ) → k < buckets → withheld_by (get_or ends k Released) ≡ f k)
+    → map withheld_by ends ≡ map f (range_with_len 0 buckets)
+asked-all f ends buckets size each =
+    fill_by_all f (map withheld_by ends) buckets None (length-map ends withheld_by ∙ size)
+    (λ k below. get_or-map withheld_by ends k Released None (omega (arith, size, below)) ∙ each k below)
+
+-- behind ends that are released the first that is withheld is that of the others
+first-behind : (xs ys : List (Option ℕ)) → first_withheld xs ≡ None → first_withheld (xs ++ ys) ≡ first_withheld ys
+first-behind [] ys none = refl
+first-behind (None ∷ xs) ys none = first-behind xs ys none
+first-behind (Some policy ∷ xs) ys none = let no : ⊥ = cc in absurd no
+
+-- one end more
+first-next : (ends : List End) (i : ℕ) (end : End) → i < length ends → end ≡ get_or ends i end → first_withheld (map withheld_by (take i ends)) ≡ None
+    → first_withheld (map withheld_by (take (i + 1) ends)) ≡ first_withheld (withheld_by end ∷ [])
+first-next ends i end below is none =
+    ap (λ (l : List End). first_withheld (map withheld_by l)) (take_more ends i end below ∙ ap (λ (e : End). take i ends ++ e ∷ []) (sym is))
+    ∙ (ap first_withheld (map-append withheld_by (take i ends) (end ∷ [])) ∙ first-behind (map withheld_by (take i ends)) (withheld_by end ∷ []) none)
+
+-- it is released
+pub released-next : (ends : List End) (i : ℕ) (end : End) → i < length ends → end ≡ get_or ends i end → end ≡ Released → first_withheld (map withheld_by (take i ends)) ≡ None
+    → first_withheld (map withheld_by (take (i + 1) ends)) ≡ None
+released-next ends i end below is released none = first-next ends i end below is none ∙ ap (λ (e : End). first_withheld (withheld_by e ∷ [])) released
+
+-- or the first that is withheld
+first-more : (xs ys : List (Option ℕ)) (policy : ℕ) → first_withheld xs ≡ Some policy → first_withheld (xs ++ ys) ≡ Some policy
+first-more [] ys policy is = let no : ⊥ = cc in absurd no
+first-more (None ∷ xs) ys policy is = first-more xs ys policy is
+first-more (Some other ∷ xs) ys policy is = is
+
+pub withheld-next : (ends : List End) (i : ℕ) (end : End) (policy : ℕ) → i < length ends → end ≡ get_or ends i end → end ≡ Withheld policy → first_withheld (map withheld_by (take i ends)) ≡ None
+    → withheld_by end ≡ first_withheld (map withheld_by ends)
+withheld-next ends i end policy below is withheld none =
+    let here : first_withheld (map withheld_by (take (i + 1) ends)) ≡ Some policy = first-next ends i end below is none ∙ ap (λ (e : End). first_withheld (withheld_by e ∷ [])) withheld in
+    ap withheld_by withheld
+    ∙ sym (ap (λ (l : List End). first_withheld (map withheld_by l)) (sym (take-append-drop (i + 1) ends))
+    ∙ (ap first_withheld (map-append withheld_by (take (i + 1) ends) (drop (i + 1) ends))
+    ∙ first-more (map withheld_by (take (i + 1) ends)) (map withheld_by (drop (i + 1) ends)) policy here))

@@ -3,7 +3,7 @@ use Rattle.std.proofs.Common.{◌≡◌, ◌≢◌, ℕ, ◌<◌, List, ◌∷�
 use Rattle.std.specs.Prelude.{position, IfSome, IfErr}
 use Rattle.std.specs.List.{range_with_len}
 use Rattle.std.proofs.lemmas.List.{length-map, get_or-map}
-use Rattle.std.proofs.lemmas.List.FromFn.{fill_by_all, length-map-range_with_len, get_or-map-range_with_len}
+use Rattle.std.proofs.lemmas.List.FromFn.{length-map-range_with_len, get_or-map-range_with_len}
 use Rattle.std.specs.Io.KnownBytes.{Appends, IsAtEnd}
 use Rattle.std.proofs.KnownBytes.{Keeps-refl}
 use Rattle.flp_report.specs.declared.nonces.Nonces.{Nonces}
@@ -40,16 +40,10 @@ use Rattle.flp_verify.specs.Text.{judged_by, verdict_line, verdict_lines}
 use Rattle.flp_verify.specs.Told.{AreTold}
 use Rattle.flp_verify.proofs.RunLemmas.{seat-counted}
 use Rattle.flp_verify.proofs.TellingLemmas.{floor-asked}
+use Rattle.flp_verify.proofs.ToldLemmas.{asked-all}
 use Rattle.flp_verify.proofs.TextLemmas.{lines-judged}
 
 -- ---- what is known of the records
-
--- the first end that is withheld, by those of all buckets
-ends-listed : (ends : List End) (buckets : ℕ) (would : ℕ → Option ℕ) → length ends ≡ buckets → ((k : ℕ) → k < buckets → withheld_by (get_or ends k Released) ≡ would k)
-    → map withheld_by ends ≡ map would (range_with_len 0 buckets)
-ends-listed ends buckets would size each =
-    fill_by_all would (map withheld_by ends) buckets None (length-map ends withheld_by ∙ size)
-    (λ k below. get_or-map withheld_by ends k Released None (omega (arith, size, below)) ∙ each k below)
 
 -- what is kept behind all of them, and the refusals of each bucket
 pub IsCounted-behind : (front : Front) (least : ℕ) (start now : Standing) (records : List (List ℕ)) (counted : Counted) → IsStart front least start → IsBehind front start now records
@@ -79,7 +73,7 @@ IsCounted-behind front least start now records counted s p numbers known shape c
       outs = (outs, front.outs);
       counts = λ k below. ap (λ (l : List ℕ). get_or l k 0) counts ∙ p.accepted k;
       ends = each;
-      end = end ∙ ap first_withheld (ends-listed counted.ends front.shape.buckets (withheld_in by.circuit by.shape least start.answers by.claims records) many each);
+      end = end ∙ ap first_withheld (asked-all (withheld_in by.circuit by.shape least start.answers by.claims records) counted.ends front.shape.buckets many each);
       once = seat.0;
       rows = seat.1;
     }
