@@ -1,10 +1,11 @@
 -- What is printed of a batch that was counted is what follows its lines.
-use Rattle.std.proofs.Common.{◌≡◌, ℕ, zero, suc, ◌+◌, ◌*◌, ◌<◌, ◌≤◌, List, [], ◌∷◌, ◌++◌, map, Bool, true, false, refl, sym, ap, ap₂, subst, ◌∙◌, arith}
+use Rattle.std.proofs.Common.{◌≡◌, ℕ, zero, suc, ◌+◌, ◌*◌, ◌<◌, ◌≤◌, List, [], ◌∷◌, ◌++◌, length, map, get_or, Bool, true, false, refl, sym, ap, ap₂, subst, ◌∙◌, arith}
 use Rattle.std.specs.Prelude.{if◌then◌else◌}
 use Rattle.std.specs.List.{range_with_len, flat_map}
 use Rattle.std.proofs.lemmas.List.Concat.{flat_map-cons}
 use Rattle.flp_report.specs.Shape.{width_of}
-use Rattle.std.proofs.lemmas.List.FromFn.{length-map-range_with_len}
+use Rattle.std.proofs.lemmas.List.FromFn.{length-range_with_len, length-map-range_with_len, get_or-range_with_len}
+use Rattle.std.proofs.Math.Nat.{zero-add}
 use Rattle.flp_tally.specs.declared.view.Entry.{Entry}
 use Rattle.flp_tally.specs.Rows.{AreSums, total_of}
 use Rattle.flp_pool.specs.Laws.{RowSums}
@@ -76,4 +77,4 @@ ending_is_released sums by least would reports counted claims is are =
 pub numbered : (buckets k : ℕ) → k < buckets → (k < length (range_with_len 0 buckets)) × (get_or (range_with_len 0 buckets) k 0 ≡ k)
 numbered buckets k below =
     let long : length (range_with_len 0 buckets) ≡ buckets = length-range_with_len 0 buckets in
-    (omega (arith, long, below), get_or-range_with_len 0 buckets k 0 below)
+    (omega (arith, long, below), get_or-range_with_len 0 buckets k 0 below ∙ zero-add k)

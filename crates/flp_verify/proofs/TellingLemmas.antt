@@ -2,7 +2,7 @@
 use Rattle.std.proofs.Common.{◌≡◌, ℕ, ◌+◌, ◌<◌, ◌≤◌, List, [], ◌∷◌, ◌++◌, length, map, take, Bool, true, false, cond, not, Some, refl, sym, ap, subst, ap₂, ◌∙◌, arith, append_assoc, length-append}
 use Rattle.std.specs.Prelude.{◌==◌, if◌then◌else◌, filter, All, nat_le, position, slice_get}
 use Rattle.std.proofs.lemmas.List.{map-append, take_more, take_all}
-use Rattle.std.proofs.lemmas.List.Elements.{filter-append}
+use Rattle.std.proofs.lemmas.List.Elements.{filter-append, All-get_or}
 use Rattle.std.proofs.lemmas.Option.{slice_get_within, get_or_from_slice_get}
 use Rattle.flp_report.specs.declared.shape.Shape.{Shape}
 use Rattle.flp_report.specs.Buckets.{HasBucket}
@@ -20,18 +20,18 @@ use Rattle.flp_verify.specs.Told.{told_of, AreTold}
 -- ---- counts
 
 -- one told verdict in front
-told-first : (j : Judged) (js : List Judged) (bucket : ℕ) (b : Bool) (n : VerdictCounts)
+told-first : (j : Judged) (js : List Judged) (b : Bool)
     → cond b (one_more j.verdict (counts_of (map (λ (k : Judged). k.verdict) js))) (counts_of (map (λ (k : Judged). k.verdict) js))
     ≡ counts_of (map (λ (k : Judged). k.verdict) (if b then j ∷ js else js))
-told-first j js bucket true n = refl
-told-first j js bucket false n = refl
+told-first j js true = refl
+told-first j js false = refl
 
 -- from none on, told verdicts come in each bucket to what those of its records count
 pub told_of-counts : (shape : Shape) (js : List Judged) (bucket : ℕ) → told_of shape js bucket no_more ≡ counts_of (map (λ (j : Judged). j.verdict) (of_bucket shape bucket js))
 told_of-counts shape [] bucket = refl
 told_of-counts shape (j ∷ js) bucket =
     ap (one_more_in (bucket_in shape j.report) j.verdict bucket) (told_of-counts shape js bucket)
-    ∙ told-first j (of_bucket shape bucket js) bucket (bucket == bucket_in shape j.report) no_more
+    ∙ told-first j (of_bucket shape bucket js) (bucket == bucket_in shape j.report)
 
 -- telling some and then others is telling both
 pub told_of-append : (shape : Shape) (xs ys : List Judged) (of : ℕ) (n : VerdictCounts) → told_of shape (xs ++ ys) of n ≡ told_of shape xs of (told_of shape ys of n)

@@ -1,14 +1,17 @@
 -- The totals of a tally: as a list, and what the rows of the places of a batch come to.
-use Rattle.std.proofs.Common.{◌≡◌, ℕ, zero, suc, ◌+◌, ◌-◌, ◌%◌, ◌<◌, List, [], ◌∷◌, ◌++◌, length, map, get_or, take, Bool, true, false, refl, sym, ap, ap₂, ◌∙◌, arith, sum_by, length-append}
+use Rattle.std.proofs.Common.{◌≡◌, ℕ, zero, suc, ◌+◌, ◌-◌, ◌*◌, ◌%◌, ◌<◌, ◌≤◌, List, [], ◌∷◌, ◌++◌, length, map, get_or, take, drop, replicate, Bool, true, false, refl, sym, ap, ap₂, ◌∙◌, arith, sum_by, length-append, ⊎_elim}
+use Rattle.std.specs.Prelude.{◌==◌, if◌then◌else◌}
 use Rattle.std.specs.List.{range_with_len}
-use Rattle.std.proofs.lemmas.List.{length-map, take-append-le, get_or_append_left}
+use Rattle.std.proofs.lemmas.Bool.{cases_Bool, cases_lt, eq-eqb, eqb-true}
+use Rattle.std.proofs.lemmas.List.{length-map, length-drop, length-replicate, length-take-le, take-append-le, get_or_append_left, get_or_past, get_or-replicate}
 use Rattle.std.proofs.lemmas.List.Sums.{sum_by-cons}
 use Rattle.std.proofs.lemmas.List.FromFn.{fill_by_all}
-use Rattle.std.proofs.Math.Nat.{zero-add}
+use Rattle.std.proofs.Math.Nat.{zero-add, mul-le-mul_right}
+use Rattle.std.proofs.Math.Seq.{get_or-append_right}
 use Rattle.flp_field.specs.Word.{modulus}
-use Rattle.flp_field.specs.Sums.{total_at}
+use Rattle.flp_field.specs.Sums.{total_at, sum_of_lists}
+use Rattle.flp_field.proofs.WordLists.{get_or-words_at}
 use Rattle.flp_field.proofs.ListSums.{total_at-cons, sum_of_lists_from}
-use Rattle.flp_meaning.specs.Gadgets.{out_count}
 use Rattle.flp_tally.specs.declared.view.Entry.{Entry}
 use Rattle.flp_tally.specs.Rows.{total_of, AreTotals}
 use Rattle.flp_pool.specs.Work.{rows_of}
@@ -18,8 +21,12 @@ use Rattle.flp_report.specs.declared.shape.Shape.{Shape}
 use Rattle.flp_policy.specs.declared.verdict.Verdict.{Verdict}
 use Rattle.flp_policy.specs.declared.verdict.Verdict.TheVariants.{Replayed}
 use Rattle.flp_policy.specs.Verdicts.{is_accepted}
+use Rattle.flp_report.specs.Record.{bucket_in}
 use Rattle.flp_worker.specs.Verdict.{outs_in}
+use Rattle.flp_round.specs.Findings.{row_with, outs_row}
+use Rattle.flp_round.proofs.OutsLemmas.{length-outs_in}
 use Rattle.flp_verdict.specs.Verdicts.{Judged, judged_from, accepted_in, verdict_after}
+use Rattle.flp_verdict.specs.Totals.{of_bucket}
 use Rattle.flp_verdict.specs.Laws.{report_at, verdict_at}
 use Rattle.flp_verdict.proofs.PlaceLemmas.{at-place}
 use Rattle.flp_verify.specs.Text.{judged_by}

@@ -16,7 +16,7 @@ use flp_verdict::{put_number, put_spaced};
 /// What follows the lines of the records of a batch: how many are accepted, of each bucket how many of its records are and how
 /// its release ended, the sums of the outs of these, bucket after bucket, and whether what is known is told as claims.
 #[derive(Clone, Copy)]
-pub(crate) struct Ending<'a> {
+pub struct Ending<'a> {
     pub version: u32,
     pub buckets: u32,
     pub outs: u32,

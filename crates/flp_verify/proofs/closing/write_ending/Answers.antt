@@ -1,7 +1,5 @@
-use Rattle.flp_known.specs.Known.{known_in}
-use Rattle.flp_verdict.specs.Release.{ending_by}
 use Rattle.flp_io.proofs.UsesLemmas.{Uses-after}
-use Rattle.flp_verify.specs.Counted.{withheld_by}
+use Rattle.flp_verify.specs.Ending.{text_of}
 use Rattle.flp_known.proofs.PutsLemmas.{front-flushed, whole-flushed}
 use Rattle.flp_verify.proofs.closing.write_ending.Goals as goal
 

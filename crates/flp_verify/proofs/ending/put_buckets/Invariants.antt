@@ -1,6 +1,6 @@
 use Rattle.std.proofs.Common.{Result, Ok, take}
 use Rattle.std.specs.List.{range_with_len, flat_map}
-use Rattle.flp_io.specs.declared.fault.Failed.{Failed}
+use Rattle.flp_io.specs.declared.failed.Failed.{Failed}
 use Rattle.flp_known.specs.Puts.{Puts}
 use Rattle.flp_verdict.specs.Release.{bucket_line}
 use Rattle.flp_verify.specs.Counted.{closing_by}

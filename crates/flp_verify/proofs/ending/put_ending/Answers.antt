@@ -1,7 +1,7 @@
 use Rattle.std.proofs.Common.{◌++◌, refl}
 use Rattle.flp_known.specs.Known.{known_in}
-use Rattle.flp_verdict.specs.Release.{count_line, release_line, claims_out}
-use Rattle.flp_verify.specs.Counted.{withheld_by}
+use Rattle.flp_verdict.specs.Release.{count_line, bucket_lines, claims_out}
+use Rattle.flp_verify.specs.Counted.{closing_by}
 use Rattle.flp_known.proofs.PutsLemmas.{Puts-after, Puts-short}
 use Rattle.flp_verify.proofs.ending.put_ending.Goals as goal
 
