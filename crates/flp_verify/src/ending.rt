@@ -120,7 +120,12 @@ fn put_bucket<K: Sink>(
     let outs = ending.outs as usize;
     let start = at * outs;
     put_bucket_head(block, sink, ending.version, bucket, ending.counts[at])?;
-    put_release(block, sink, ending.ends[at], &ending.totals[start..start + outs])
+    put_release(
+        block,
+        sink,
+        ending.ends[at],
+        &ending.totals[start..start + outs],
+    )
 }
 
 /// Puts the lines of the buckets, in their order.
