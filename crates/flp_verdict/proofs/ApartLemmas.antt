@@ -128,8 +128,8 @@ length-ones (x ∷ xs) = let rest = length-ones xs in let whole = sum_by-cons (�
 
 -- it does not matter which of two tests is made first
 filters-swap : {X : Type 0} (p q : X → Bool) (xs : List X) → filter p (filter q xs) ≡ filter q (filter p xs)
-filters-swap p q [] = refl
-filters-swap p q (x ∷ xs) =
+filters-swap {X = X} p q [] = refl
+filters-swap {X = X} p q (x ∷ xs) =
     let rest = filters-swap p q xs in
     ⊎_elim
     (λ (yes : p x ≡ true).
