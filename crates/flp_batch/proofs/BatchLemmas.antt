@@ -1,5 +1,5 @@
 -- From what was opened and what came behind it to the whole file.
-use Rattle.std.proofs.Common.{◌≡◌, ◌≢◌, ℕ, ◌+◌, ◌-◌, ◌/◌, ◌≤◌, min, Option, List, ◌++◌, [], length, take, inl, inr, refl, sym, ap, subst, Result, Err, ◌∙◌, ◌⊎◌, arith, append-nil, length-append, ⊎_elim}
+use Rattle.std.proofs.Common.{◌≡◌, ℕ, ◌+◌, ◌-◌, ◌≤◌, Option, List, ◌++◌, [], length, take, inl, inr, refl, sym, ap, subst, Result, Err, ◌∙◌, ◌⊎◌, arith, append-nil, length-append, ⊎_elim}
 use Rattle.std.specs.Prelude.{IfSome}
 use Rattle.std.specs.List.{concat}
 use Rattle.std.specs.Prelude.{All}
@@ -10,13 +10,10 @@ use Rattle.std.proofs.lemmas.Result.{IfErr-weaker}
 use Rattle.flp_io.specs.Reads.{ConsumesSome}
 use Rattle.flp_io.specs.Writes.{TakesPrefix}
 use Rattle.flp_io.proofs.WriteLemmas.{TakesPrefix-more}
-use Rattle.flp_report.specs.declared.shape.Shape.{Shape}
 use Rattle.flp_report.specs.Shape.{bytes_of}
 use Rattle.flp_io.specs.Reads.{ConsumesAtMost}
 use Rattle.flp_report.specs.Batch.{file_size, whole_of, whole_records}
 use Rattle.flp_report.specs.Buckets.{HasBucket, placed}
-use Rattle.flp_report.proofs.BucketLemmas.{placed-one, placed-behind}
-use Rattle.flp_report.proofs.PiecesLemmas.{length-pieces}
 use Rattle.flp_report.proofs.LawLemmas.{fault_of-records, records_fault-none, whole_records-first, whole_records-all}
 use Rattle.flp_report.proofs.KnownLemmas.{IfSome-consumed, IfSome-before}
 use Rattle.flp_report.proofs.ReadsLemmas.{ConsumesAtMost-after}
@@ -29,7 +26,7 @@ use Rattle.flp_batch.specs.Fault.{IfFile}
 use Rattle.flp_batch.specs.Format.{batches, newest_read}
 use Rattle.flp_batch.specs.File.{IsBatch, IsFault, TakesFile, TakesFew}
 use Rattle.flp_batch.specs.Lines.{Wording, lines_from, lines_of}
-use Rattle.flp_batch.specs.Opened.{setting_of, records_size, IsRecordsFault, IsOpened, Opens}
+use Rattle.flp_batch.specs.Opened.{setting_of, records_size, IsRecordsFault, Opens}
 use Rattle.flp_batch.specs.Reply.{WritesOf, StopsInText, text_on, StopsEarly, SettlesEarly}
 use Rattle.flp_batch.specs.Setting.{Setting}
 use Rattle.flp_batch.specs.Walk.{Stops, Settles, TellsOf, StopsWalk}

@@ -1,5 +1,5 @@
 -- What the reading of the old claims behind a head answers.
-use Rattle.std.specs.Prelude.{ℕ, ◌≡◌, ◌≢◌, ◌≤◌, ◌⊎◌, ◌+◌, ◌*◌, List, Option, None, Some, IfSome, length}
+use Rattle.std.specs.Prelude.{ℕ, ◌≡◌, ◌⊎◌, ◌+◌, ◌*◌, List, Option, None, Some, IfSome, length}
 use Rattle.flp_report.specs.Reader.{BatchReader}
 use Rattle.flp_report.specs.declared.fault.BatchFault.{BatchFault}
 use Rattle.flp_report.specs.declared.header.Header.{Header}
