@@ -135,7 +135,7 @@ filters-swap {X = X} p q (x ∷ xs) =
     (λ (yes : p x ≡ true).
     ⊎_elim
     (λ (both : q x ≡ true). rw (yes, both, yes) (ap (λ (l : List X). x ∷ l) rest))
-    (λ (no : q x ≡ false). rw (yes, no, no) rest)
+    (λ (no : q x ≡ false). rw (yes, no) rest)
     (cases_Bool (q x)))
     (λ (no : p x ≡ false).
     ⊎_elim
