@@ -33,7 +33,6 @@ use Rattle.flp_verify.specs.Laws.{IsCounted}
 use Rattle.flp_verify.specs.Numbers.{counts_in}
 use Rattle.flp_verify.specs.Reply.{CountsRecords, Counts}
 use Rattle.flp_verify.specs.Rows.{row_in}
-use Rattle.flp_verify.specs.declared.counted.End.{End}
 use Rattle.flp_verify.specs.declared.counted.End.TheVariants.{Released}
 use Rattle.flp_verify.specs.Settled.{Standing, IsStart, IsBehind, setting_with, opened_with, judged_with, seen_by}
 use Rattle.flp_verify.specs.Text.{judged_by, verdict_line, verdict_lines}

@@ -1,4 +1,4 @@
-use Rattle.std.proofs.Common.{ℕ, ◌≡◌, ◌<◌, List, length, get_or, refl, sym, arith}
+use Rattle.std.proofs.Common.{ℕ, ◌≡◌, List, length, refl, sym, arith}
 use Rattle.std.specs.List.{range_with_len}
 use Rattle.std.proofs.lemmas.List.FromFn.{length-range_with_len}
 use Rattle.flp_known.proofs.PutsLemmas.{Puts-none, Puts-more, Puts-stop, Puts-all}

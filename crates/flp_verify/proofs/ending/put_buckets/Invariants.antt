@@ -1,4 +1,4 @@
-use Rattle.std.proofs.Common.{Result, Ok, take}
+use Rattle.std.proofs.Common.{Ok, take}
 use Rattle.std.specs.List.{range_with_len, flat_map}
 use Rattle.flp_io.specs.declared.failed.Failed.{Failed}
 use Rattle.flp_known.specs.Puts.{Puts}

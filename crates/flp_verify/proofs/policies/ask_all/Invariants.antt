@@ -1,4 +1,4 @@
-use Rattle.std.proofs.Common.{◌≡◌, ◌∷◌, ◌<◌, ℕ, Option, length, map, get_or, not}
+use Rattle.std.proofs.Common.{◌≡◌, ◌∷◌, ◌<◌, ℕ, length, map, get_or, not}
 use Rattle.std.specs.Prelude.{position, nat_le}
 use Rattle.flp_policy.specs.Counts.{no_more}
 use Rattle.flp_verify.specs.declared.counted.End.TheVariants.{Released}
