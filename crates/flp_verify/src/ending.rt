@@ -28,6 +28,41 @@ pub struct Ending<'a> {
     pub known: &'a Known,
 }
 
+impl Ending<'_> {
+    ghost use Rattle.std.specs.Prelude.{◌≡◌, ◌+◌, ◌≤◌, slice_index_or};
+    ghost use Rattle.flp_verify.specs.declared.counted.End.TheVariants.{Released as ReleasedEnd};
+    ghost use Rattle.flp_verify.specs.Counted.{words_of_bucket};
+
+    /// How many records of this bucket are accepted.
+    fn count(&self, bucket: u32) -> u32
+        requires listed { IsListed self.now }
+        requires bucket { bucket + 1 ≤ self.now.buckets }
+        ensures { result ≡ slice_index_or self.now.counts.now bucket 0 }
+    {
+        self.counts[bucket as usize]
+    }
+
+    /// How the release of this bucket ended.
+    fn end(&self, bucket: u32) -> End
+        requires listed { IsListed self.now }
+        requires bucket { bucket + 1 ≤ self.now.buckets }
+        ensures { result ≡ slice_index_or self.now.ends.now bucket ReleasedEnd }
+    {
+        self.ends[bucket as usize]
+    }
+
+    /// The sums of the outs of this bucket's accepted records.
+    fn words(&self, bucket: u32) -> &[Fe]
+        requires listed { IsListed self.now }
+        requires bucket { bucket + 1 ≤ self.now.buckets }
+        ensures { result.now ≡ words_of_bucket self.now.outs bucket self.now.totals.now }
+    {
+        let outs = self.outs as usize;
+        let start = bucket as usize * outs;
+        &self.totals[start..start + outs]
+    }
+}
+
 /// Puts a line that says a number.
 fn put_number_line<K: Sink>(
     block: &mut Block,
@@ -116,16 +151,9 @@ fn put_bucket<K: Sink>(
     ensures { Puts K.taken K.faults K.ready sink.old sink.new block.old block.new
         (bucket_line ending.now.version bucket (closing_by ending.now.outs ending.now.counts.now ending.now.ends.now ending.now.totals.now bucket)) result }
 {
-    let at = bucket as usize;
-    let outs = ending.outs as usize;
-    let start = at * outs;
-    put_bucket_head(block, sink, ending.version, bucket, ending.counts[at])?;
-    put_release(
-        block,
-        sink,
-        ending.ends[at],
-        &ending.totals[start..start + outs],
-    )
+    let count = ending.count(bucket);
+    put_bucket_head(block, sink, ending.version, bucket, count)?;
+    put_release(block, sink, ending.end(bucket), ending.words(bucket))
 }
 
 /// Puts the lines of the buckets, in their order.
