@@ -1,6 +1,6 @@
 mod CountLemmas
 mod FindingsLemmas
-mod OutsLemmas
+pub mod OutsLemmas
 mod RowLemmas
 mod NotesLemmas
 mod RoundLemmas

@@ -1,13 +1,13 @@
 -- Lists whose elements are told something one after another, by what a test says of each.
 use Rattle.std.proofs.Common.{◌≡◌, ℕ, zero, suc, ◌+◌, ◌<◌, ◌≤◌, List, [], ◌∷◌, ◌++◌, length, get_or, map, set, take, drop, Option, Bool, true, false, not, cond, ltb, Some, None, sym, refl, ap, ◌∙◌, arith, get_or-set_same, get_or-set_other, length-set, lt-ltb}
-use Rattle.std.specs.Prelude.{position}
+use Rattle.std.specs.Prelude.{position, is_none}
 use Rattle.std.specs.List.{position_or_len, range_with_len}
 use Rattle.std.proofs.lemmas.Bool.Decides.{nat_tests}
 use Rattle.std.proofs.lemmas.List.{get_or-map, length-map, map-append, map-set, ext_get_or, take_more, take-append-drop}
 use Rattle.std.proofs.lemmas.List.FromFn.{fill_by_all}
 use Rattle.flp_verdict.specs.Release.{first_withheld}
 use Rattle.flp_verify.specs.declared.counted.End.{End}
-use Rattle.flp_verify.specs.declared.counted.End.TheVariants.{Released, Withheld}
+use Rattle.flp_verify.specs.declared.counted.End.TheVariants.{Released}
 use Rattle.flp_verify.specs.Counted.{withheld_by}
 use Rattle.std.proofs.lemmas.List.Sums.{position_or_len_is}
 use mathlib.Core.Logic.{dite}
@@ -113,16 +113,20 @@ first-behind (None ∷ xs) ys none = first-behind xs ys none
 first-behind (Some policy ∷ xs) ys none = let no : ⊥ = cc in absurd no
 
 -- one end more
-first-next : (ends : List End) (i : ℕ) (end : End) → i < length ends → end ≡ get_or ends i end → first_withheld (map withheld_by (take i ends)) ≡ None
+first-next : (ends : List End) (i : ℕ) (end : End) → i < length ends → end ≡ get_or ends i Released → first_withheld (map withheld_by (take i ends)) ≡ None
     → first_withheld (map withheld_by (take (i + 1) ends)) ≡ first_withheld (withheld_by end ∷ [])
 first-next ends i end below is none =
-    ap (λ (l : List End). first_withheld (map withheld_by l)) (take_more ends i end below ∙ ap (λ (e : End). take i ends ++ e ∷ []) (sym is))
+    ap (λ (l : List End). first_withheld (map withheld_by l)) (take_more ends i Released below ∙ ap (λ (e : End). take i ends ++ e ∷ []) (sym is))
     ∙ (ap first_withheld (map-append withheld_by (take i ends) (end ∷ [])) ∙ first-behind (map withheld_by (take i ends)) (withheld_by end ∷ []) none)
 
 -- it is released
-pub released-next : (ends : List End) (i : ℕ) (end : End) → i < length ends → end ≡ get_or ends i end → end ≡ Released → first_withheld (map withheld_by (take i ends)) ≡ None
+no-first : (o : Option ℕ) → is_none o ≡ true → first_withheld (o ∷ []) ≡ None
+no-first None is = refl
+no-first (Some policy) is = let no : ⊥ = cc in absurd no
+
+pub released-next : (ends : List End) (i : ℕ) (end : End) → i < length ends → end ≡ get_or ends i Released → is_none (withheld_by end) ≡ true → first_withheld (map withheld_by (take i ends)) ≡ None
     → first_withheld (map withheld_by (take (i + 1) ends)) ≡ None
-released-next ends i end below is released none = first-next ends i end below is none ∙ ap (λ (e : End). first_withheld (withheld_by e ∷ [])) released
+released-next ends i end below is released none = first-next ends i end below is none ∙ no-first (withheld_by end) released
 
 -- or the first that is withheld
 first-more : (xs ys : List (Option ℕ)) (policy : ℕ) → first_withheld xs ≡ Some policy → first_withheld (xs ++ ys) ≡ Some policy
@@ -130,11 +134,13 @@ first-more [] ys policy is = let no : ⊥ = cc in absurd no
 first-more (None ∷ xs) ys policy is = first-more xs ys policy is
 first-more (Some other ∷ xs) ys policy is = is
 
-pub withheld-next : (ends : List End) (i : ℕ) (end : End) (policy : ℕ) → i < length ends → end ≡ get_or ends i end → end ≡ Withheld policy → first_withheld (map withheld_by (take i ends)) ≡ None
+some-first : (xs ys : List (Option ℕ)) (o : Option ℕ) → is_none o ≡ false → first_withheld xs ≡ first_withheld (o ∷ []) → first_withheld (xs ++ ys) ≡ o
+some-first xs ys None is same = let no : ⊥ = cc in absurd no
+some-first xs ys (Some policy) is same = first-more xs ys policy same
+
+pub withheld-next : (ends : List End) (i : ℕ) (end : End) → i < length ends → end ≡ get_or ends i Released → is_none (withheld_by end) ≡ false → first_withheld (map withheld_by (take i ends)) ≡ None
     → withheld_by end ≡ first_withheld (map withheld_by ends)
-withheld-next ends i end policy below is withheld none =
-    let here : first_withheld (map withheld_by (take (i + 1) ends)) ≡ Some policy = first-next ends i end below is none ∙ ap (λ (e : End). first_withheld (withheld_by e ∷ [])) withheld in
-    ap withheld_by withheld
-    ∙ sym (ap (λ (l : List End). first_withheld (map withheld_by l)) (sym (take-append-drop (i + 1) ends))
+withheld-next ends i end below is withheld none =
+    sym (ap (λ (l : List End). first_withheld (map withheld_by l)) (sym (take-append-drop (i + 1) ends))
     ∙ (ap first_withheld (map-append withheld_by (take (i + 1) ends) (drop (i + 1) ends))
-    ∙ first-more (map withheld_by (take (i + 1) ends)) (map withheld_by (drop (i + 1) ends)) policy here))
+    ∙ some-first (map withheld_by (take (i + 1) ends)) (map withheld_by (drop (i + 1) ends)) (withheld_by end) withheld (first-next ends i end below is none)))

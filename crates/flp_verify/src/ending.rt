@@ -115,7 +115,7 @@ fn put_bucket_head<K: Sink>(
     ensures { Puts K.taken K.faults K.ready sink.old sink.new block.old block.new (if version == 2 then bucket_head bucket accepted else []) result }
 {
     if version == 2 {
-        put_bucket_name(block, sink, bucket, accepted)
+        put_bucket_name(block, sink, u64::from(bucket), u64::from(accepted))
     } else {
         put_piece(block, sink, b"")
     }
@@ -125,16 +125,16 @@ fn put_bucket_head<K: Sink>(
 fn put_bucket_name<K: Sink>(
     block: &mut Block,
     sink: &mut K,
-    bucket: u32,
-    accepted: u32,
+    bucket: u64,
+    accepted: u64,
 ) -> Result<(), Failed>
     requires { K.ready sink.old }
     ensures { Puts K.taken K.faults K.ready sink.old sink.new block.old block.new (bucket_head bucket accepted) result }
 {
     put_piece(block, sink, b"bucket ")?;
-    put_number(block, sink, u64::from(bucket))?;
+    put_number(block, sink, bucket)?;
     put_piece(block, sink, b" count ")?;
-    put_number(block, sink, u64::from(accepted))?;
+    put_number(block, sink, accepted)?;
     put_piece(block, sink, b" ")
 }
 

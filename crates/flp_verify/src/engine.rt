@@ -61,8 +61,7 @@ impl Ledger {
         least: u64,
         buckets: u32,
     ) -> Result<Ledger, Memory>
-        ensures known { IfOk result (λ ledger. ledger.known.claims ≡ claims) }
-        ensures knows { IfOk result (λ ledger. known_in ledger.known ≡ nonces_in claims) }
+        ensures known { IfOk result (λ ledger. known_in ledger.known ≡ nonces_in claims) }
         ensures counts { IfOk result (λ ledger. counts_in ledger.numbers ≡ no_more) }
         ensures accepted { IfOk result (λ ledger. AreNone ledger.counts.items) }
         ensures buckets { IfOk result (λ ledger. (vec_len ledger.counts ≡ buckets) × (vec_len ledger.ends ≡ buckets)) }

@@ -1,6 +1,6 @@
 //! Those who may hold aggregates back: each is told every verdict with its bucket, and then they are asked of each bucket, in
 //! their order.
-ghost use Rattle.std.specs.Prelude.{◌≡◌, ◌<◌, ◌≤◌, ◌^◌, ◌-◌, ℕ, ◌∷◌, map, length, not, position};
+ghost use Rattle.std.specs.Prelude.{◌≡◌, ◌<◌, ◌≤◌, ◌^◌, ◌-◌, ℕ, ◌∷◌, map, is_none, length, not, position};
 ghost use Rattle.std.specs.List.{range_with_len};
 ghost use Rattle.flp_policy.specs.Counts.{VerdictCounts, one_more_in, no_more};
 ghost use Rattle.flp_verdict.specs.Release.{first_withheld};
@@ -79,9 +79,19 @@ pub(crate) fn first_end(ends: &[End]) -> End
     ensures { withheld_by result ≡ first_withheld (map withheld_by ends.now) }
 {
     for end in ends {
-        if let End::Withheld(_) = end {
+        if !is_released(*end) {
             return *end;
         }
     }
     End::Released
+}
+
+/// Whether a bucket that ends so is released.
+fn is_released(end: End) -> bool
+    ensures { result ≡ is_none (withheld_by end) }
+{
+    match end {
+        End::Released => true,
+        End::Withheld(_) => false,
+    }
 }

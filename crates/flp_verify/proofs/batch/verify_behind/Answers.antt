@@ -34,11 +34,11 @@ pub returns-in-Ok-clause-done : goal.returns-in-Ok-clause-done
 returns-in-Ok-clause-done g c =
     let ledger = c.in_ok-ledger.ensures in
     let all = c.in_default.ensures in
-    CountsRecords-made c.args.front c.args.claims c.args.least _ _ c.in-Ok.counted _ _ _ _ ledger.knows all.done all.ended.0
+    CountsRecords-made c.args.front c.args.claims c.args.least _ _ c.in-Ok.counted _ _ _ _ ledger.known all.done all.ended.0
     (λ records p. c.in-Ok.ensures c.args.least _ records (record { counts = ledger.counts; accepted = ledger.accepted; floor = ledger.floor; view = ap (seen_by c.args.front) ledger.board }) p)
 
 pub returns-clause-breaks : goal.returns-clause-breaks
 returns-clause-breaks g c =
     let front = c.args.front in
     subst (λ (k : List (List ℕ)). Breaks Memory front.shape front.header.reports (verdict_line (setting_with front k)) (g.S.Source.left (source_of c.args.reader.now)) (g.S.Source.left (source_of c.verify_records.new.reader)) (g.K.Sink.taken c.args.output.now) (g.K.Sink.taken c.verify_records.new.output))
-    c.in_ok-ledger.ensures.knows (Breaks-wanting front _ _ _ _ _ _ c.in_default.ensures.done)
+    c.in_ok-ledger.ensures.known (Breaks-wanting front _ _ _ _ _ _ c.in_default.ensures.done)
