@@ -69,7 +69,7 @@ reports-judged program shape claims earlier (r ∷ reports) = ap (λ (l : List (
 -- ---- the words of one bucket
 
 -- zeros wherever they are asked for
-zero-at : (n i : ℕ) → get_or (replicate n 0) i 0 ≡ 0
+zero-at : (n i : ℕ) → let none : ℕ = 0 in get_or (replicate n none) i none ≡ none
 zero-at n i =
     ⊎_elim (λ (below : i < n). get_or-replicate n i 0 0 below) (λ (past : n ≤ i). get_or_past (replicate n 0) i 0 (omega (arith, length-replicate n 0))) (cases_lt i n)
 
@@ -91,7 +91,8 @@ row-word buckets bucket k n e outs size below =
     rw is
     (⊎_elim
     (λ (less : k < bucket).
-    let one : (k + 1) * n ≤ bucket * n = mul-le-mul_right n less in
+    let up : k + 1 ≤ bucket = omega (arith, less) in
+    let one : (k + 1) * n ≤ bucket * n = mul-le-mul_right n up in
     let step : (k + 1) * n ≡ k * n + n = omega arith in
     get_or_append_left front (outs ++ back) 0 place (omega (arith, one, step, wide, below)) ∙ zero-at (bucket * length outs) place)
     (λ (least : bucket ≤ k).
@@ -138,7 +139,8 @@ totals_are_aggregates sums by reports places totals outs_are once are size bucke
     let own : (r : List ℕ) → length (outs_in by.circuit by.shape r) ≡ n = λ r. length-outs_in by.circuit by.shape r ∙ sym outs_are in
     let same : map (λ (j : Judged). j.report) js ≡ reports = reports-judged by.circuit by.shape by.claims [] reports in
     let long : length reports - 0 ≡ length js = omega (arith, ap (λ (l : List (List ℕ)). length l) same, length-map js (λ (j : Judged). j.report)) in
-    let next : (bucket + 1) * n ≤ by.shape.buckets * n = mul-le-mul_right n inside in
+    let up : bucket + 1 ≤ by.shape.buckets = omega (arith, inside) in
+    let next : (bucket + 1) * n ≤ by.shape.buckets * n = mul-le-mul_right n up in
     let step : (bucket + 1) * n ≡ bucket * n + n = omega arith in
     let fits : n ≤ length (drop (bucket * n) totals) = omega (arith, length-drop (bucket * n) totals, size, next, step) in
     sum_of_lists_from n (words_of_bucket n bucket totals) (map (outs_in by.circuit by.shape) (accepted_in (of_bucket by.shape bucket js))) (length-take-le n (drop (bucket * n) totals) fits)

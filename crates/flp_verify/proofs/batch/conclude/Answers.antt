@@ -1,4 +1,5 @@
-use Rattle.std.proofs.Common.{◌∙◌, refl}
+use Rattle.std.proofs.Common.{◌∙◌, map, refl, ap}
+use Rattle.flp_verify.specs.Counted.{withheld_by}
 use Rattle.flp_verify.proofs.WholeLemmas.{IsCounted-behind}
 use Rattle.flp_verify.proofs.batch.conclude.Goals as goal
 

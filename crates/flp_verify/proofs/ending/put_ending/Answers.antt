@@ -7,24 +7,22 @@ use Rattle.flp_verify.proofs.ending.put_ending.Goals as goal
 
 pub returns-in_err-put_number_line : goal.returns-in_err-put_number_line
 returns-in_err-put_number_line g c =
-    let count = count_line c.args.ending.now.accepted in
     let e = c.args.ending.now in
     let lines = bucket_lines e.version e.buckets (closing_by e.outs e.counts.now e.ends.now e.totals.now) in
-    Puts-short (count ++ lines) (claims_out c.args.ending.now.claims (known_in c.args.ending.now.known.now))
-    (Puts-short {s = c.from_residual.result} count lines c.in_err-put_number_line.ensures refl c.from_residual.ensures.0) c.from_residual.ensures.0 c.from_residual.ensures.0
+    Puts-short (count_line e.accepted) (lines ++ claims_out e.claims (known_in e.known.now)) c.in_err-put_number_line.ensures refl c.from_residual.ensures.0
 
 pub returns-in_err-put_buckets : goal.returns-in_err-put_buckets
 returns-in_err-put_buckets g c =
-    let count = count_line c.args.ending.now.accepted in
     let e = c.args.ending.now in
     let lines = bucket_lines e.version e.buckets (closing_by e.outs e.counts.now e.ends.now e.totals.now) in
-    Puts-short (count ++ lines) (claims_out c.args.ending.now.claims (known_in c.args.ending.now.known.now))
-    (Puts-after count lines c.in_ok-put_number_line.ensures refl c.in_err-put_buckets.ensures) refl c.from_residual-in_err-put_buckets.ensures.0
+    let claims = claims_out e.claims (known_in e.known.now) in
+    Puts-after (count_line e.accepted) (lines ++ claims) c.in_ok-put_number_line.ensures refl
+    (Puts-short lines claims c.in_err-put_buckets.ensures refl c.from_residual-in_err-put_buckets.ensures.0)
 
 pub returns : goal.returns
 returns g c =
-    let count = count_line c.args.ending.now.accepted in
     let e = c.args.ending.now in
     let lines = bucket_lines e.version e.buckets (closing_by e.outs e.counts.now e.ends.now e.totals.now) in
-    Puts-after (count ++ lines) (claims_out c.args.ending.now.claims (known_in c.args.ending.now.known.now))
-    (Puts-after count lines c.in_ok-put_number_line.ensures refl c.in_ok-put_buckets.ensures) refl c.put_claims_out.ensures
+    let claims = claims_out e.claims (known_in e.known.now) in
+    Puts-after (count_line e.accepted) (lines ++ claims) c.in_ok-put_number_line.ensures refl
+    (Puts-after lines claims c.in_ok-put_buckets.ensures refl c.put_claims_out.ensures)

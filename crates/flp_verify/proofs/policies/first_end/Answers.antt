@@ -1,4 +1,5 @@
 use Rattle.std.proofs.Common.{◌<◌, ◌≤◌, ◌∙◌, length, map, sym, ap, arith}
+use Rattle.std.specs.Prelude.{is_none}
 use Rattle.std.proofs.lemmas.List.{get_or_read, take_all}
 use Rattle.flp_verdict.specs.Release.{first_withheld}
 use Rattle.flp_verify.specs.Counted.{withheld_by}
@@ -11,15 +12,17 @@ pub loop-end-preserved : goal.loop-end-preserved
 loop-end-preserved c =
     let ends = c.args.ends.now in
     let below : c.loop-end.end-index < length ends = omega arith in
-    let is = get_or_read ends c.loop-end.end-index c.end-item.result below c.end-item.is Released in
-    released-next ends c.loop-end.end-index c.end-item.result below is (sym c.is_released.ensures ∙ c.if-not-is_released.false) c.loop-end.invariant
+    let is = get_or_read ends c.loop-end.end-index c.is_released-arg-1.result below c.is_released-arg-1.is Released in
+    released-next ends c.loop-end.end-index c.is_released-arg-1.result below is (sym c.is_released.ensures ∙ c.if-not-is_released.false) c.loop-end.invariant
 
 pub returns-then-not-is_released : goal.returns-then-not-is_released
 returns-then-not-is_released c =
     let ends = c.args.ends.now in
     let below : c.loop-end.end-index < length ends = omega arith in
-    let is = get_or_read ends c.loop-end.end-index c.end-item.result below c.end-item.is Released in
-    withheld-next ends c.loop-end.end-index c.end-item.result below is (sym c.is_released.ensures ∙ c.if-not-is_released.true) c.loop-end.invariant
+    let asked = get_or_read ends c.loop-end.end-index c.is_released-arg-1.result below c.is_released-arg-1.is Released in
+    let is = get_or_read ends c.loop-end.end-index c.result-1.result below c.result-1.is Released in
+    withheld-next ends c.loop-end.end-index c.result-1.result below is
+    (ap (λ (e : End). is_none (withheld_by e)) (is ∙ sym asked) ∙ (sym c.is_released.ensures ∙ c.if-not-is_released.true)) c.loop-end.invariant
 
 pub returns : goal.returns
 returns c =
