@@ -1,9 +1,9 @@
 -- Lists whose elements are told something one after another, by what a test says of each.
-use Rattle.std.proofs.Common.{◌≡◌, ℕ, zero, suc, ◌+◌, ◌<◌, ◌≤◌, List, [], ◌∷◌, ◌++◌, length, get_or, map, set, take, drop, Option, Bool, true, false, not, cond, ltb, Some, None, sym, refl, ap, ◌∙◌, arith, get_or-set_same, get_or-set_other, length-set, lt-ltb}
-use Rattle.std.specs.Prelude.{position, is_none}
+use Rattle.std.proofs.Common.{◌≡◌, ℕ, zero, suc, ◌+◌, ◌<◌, ◌≤◌, List, [], ◌∷◌, ◌++◌, length, get_or, map, set, take, Option, Bool, true, false, not, cond, ltb, Some, None, sym, refl, ap, ◌∙◌, arith, get_or-set_same, get_or-set_other, length-set, lt-ltb}
+use Rattle.std.specs.Prelude.{position, option_or}
 use Rattle.std.specs.List.{position_or_len, range_with_len}
 use Rattle.std.proofs.lemmas.Bool.Decides.{nat_tests}
-use Rattle.std.proofs.lemmas.List.{get_or-map, length-map, map-append, map-set, ext_get_or, take_more, take-append-drop}
+use Rattle.std.proofs.lemmas.List.{get_or-map, length-map, map-append, map-set, ext_get_or, take_more_set}
 use Rattle.std.proofs.lemmas.List.FromFn.{fill_by_all}
 use Rattle.flp_verdict.specs.Release.{first_withheld}
 use Rattle.flp_verify.specs.declared.counted.End.{End}
@@ -106,41 +106,17 @@ asked-all f ends buckets size each =
     fill_by_all f (map withheld_by ends) buckets None (length-map ends withheld_by ∙ size)
     (λ k below. get_or-map withheld_by ends k Released None (omega (arith, size, below)) ∙ each k below)
 
--- behind ends that are released the first that is withheld is that of the others
-first-behind : (xs ys : List (Option ℕ)) → first_withheld xs ≡ None → first_withheld (xs ++ ys) ≡ first_withheld ys
-first-behind [] ys none = refl
-first-behind (None ∷ xs) ys none = first-behind xs ys none
-first-behind (Some policy ∷ xs) ys none = let no : ⊥ = cc in absurd no
+-- the first of some and of one more
+first-last : (xs : List (Option ℕ)) (o : Option ℕ) → first_withheld (xs ++ o ∷ []) ≡ option_or (first_withheld xs) o
+first-last [] None = refl
+first-last [] (Some policy) = refl
+first-last (None ∷ xs) o = first-last xs o
+first-last (Some policy ∷ xs) o = refl
 
--- one end more
-first-next : (ends : List End) (i : ℕ) (end : End) → i < length ends → end ≡ get_or ends i Released → first_withheld (map withheld_by (take i ends)) ≡ None
-    → first_withheld (map withheld_by (take (i + 1) ends)) ≡ first_withheld (withheld_by end ∷ [])
-first-next ends i end below is none =
-    ap (λ (l : List End). first_withheld (map withheld_by l)) (take_more ends i Released below ∙ ap (λ (e : End). take i ends ++ e ∷ []) (sym is))
-    ∙ (ap first_withheld (map-append withheld_by (take i ends) (end ∷ [])) ∙ first-behind (map withheld_by (take i ends)) (withheld_by end ∷ []) none)
-
--- it is released
-no-first : (o : Option ℕ) → is_none o ≡ true → first_withheld (o ∷ []) ≡ None
-no-first None is = refl
-no-first (Some policy) is = let no : ⊥ = cc in absurd no
-
-pub released-next : (ends : List End) (i : ℕ) (end : End) → i < length ends → end ≡ get_or ends i Released → is_none (withheld_by end) ≡ true → first_withheld (map withheld_by (take i ends)) ≡ None
-    → first_withheld (map withheld_by (take (i + 1) ends)) ≡ None
-released-next ends i end below is released none = first-next ends i end below is none ∙ no-first (withheld_by end) released
-
--- or the first that is withheld
-first-more : (xs ys : List (Option ℕ)) (policy : ℕ) → first_withheld xs ≡ Some policy → first_withheld (xs ++ ys) ≡ Some policy
-first-more [] ys policy is = let no : ⊥ = cc in absurd no
-first-more (None ∷ xs) ys policy is = first-more xs ys policy is
-first-more (Some other ∷ xs) ys policy is = is
-
-some-first : (xs ys : List (Option ℕ)) (o : Option ℕ) → is_none o ≡ false → first_withheld xs ≡ first_withheld (o ∷ []) → first_withheld (xs ++ ys) ≡ o
-some-first xs ys None is same = let no : ⊥ = cc in absurd no
-some-first xs ys (Some policy) is same = first-more xs ys policy same
-
-pub withheld-next : (ends : List End) (i : ℕ) (end : End) → i < length ends → end ≡ get_or ends i Released → is_none (withheld_by end) ≡ false → first_withheld (map withheld_by (take i ends)) ≡ None
-    → withheld_by end ≡ first_withheld (map withheld_by ends)
-withheld-next ends i end below is withheld none =
-    sym (ap (λ (l : List End). first_withheld (map withheld_by l)) (sym (take-append-drop (i + 1) ends))
-    ∙ (ap first_withheld (map-append withheld_by (take (i + 1) ends) (drop (i + 1) ends))
-    ∙ some-first (map withheld_by (take (i + 1) ends)) (map withheld_by (drop (i + 1) ends)) (withheld_by end) withheld (first-next ends i end below is none)))
+-- one bucket more ended so
+pub first-next : (ends : List End) (i : ℕ) (first end new : End) → i < length ends → withheld_by first ≡ first_withheld (map withheld_by (take i ends)) → withheld_by new ≡ option_or (withheld_by first) (withheld_by end)
+    → withheld_by new ≡ first_withheld (map withheld_by (take (i + 1) (set ends i end)))
+first-next ends i first end new below so is =
+    is ∙ (ap (λ (o : Option ℕ). option_or o (withheld_by end)) so
+    ∙ sym (ap (λ (l : List End). first_withheld (map withheld_by l)) (take_more_set ends i end below)
+    ∙ (ap first_withheld (map-append withheld_by (take i ends) (end ∷ [])) ∙ first-last (map withheld_by (take i ends)) (withheld_by end))))

@@ -71,7 +71,9 @@ reports-judged program shape claims earlier (r ∷ reports) = ap (λ (l : List (
 -- zeros wherever they are asked for
 zero-at : (n i : ℕ) → let none : ℕ = 0 in get_or (replicate n none) i none ≡ none
 zero-at n i =
-    ⊎_elim (λ (below : i < n). get_or-replicate n i 0 0 below) (λ (past : n ≤ i). get_or_past (replicate n 0) i 0 (omega (arith, length-replicate n 0))) (cases_lt i n)
+    let none : ℕ = 0 in
+    let long : length (replicate n none) ≡ n = length-replicate n none in
+    ⊎_elim (λ (below : i < n). get_or-replicate n i none none below) (λ (past : n ≤ i). get_or_past (replicate n none) i none (omega (arith, long, past))) (cases_lt i n)
 
 -- a word of a row in the places of a bucket: that of the outs, or 0 where the row has another bucket
 row-word : (buckets bucket k n e : ℕ) (outs : List ℕ) → length outs ≡ n → e < n → get_or (row_with buckets bucket outs) (k * n + e) 0 ≡ (if k == bucket then get_or outs e 0 else 0)

@@ -22,7 +22,7 @@ use crate::board::Board;
 use crate::counted::Counted;
 use crate::engine::{Ledger, verify_records};
 use crate::front::Front;
-use crate::policies::{ask_all, first_end};
+use crate::policies::ask_all;
 use crate::room::Room;
 use flp_batch::{EngineFault, Opened, open};
 use flp_io::{Sink, Source};
@@ -56,8 +56,7 @@ fn conclude(
         board,
     } = ledger;
     let Board { tally, seat } = Board::there_or_new(alloc, board, front)?;
-    ask_all(&floor, policies, &mut ends);
-    let end = first_end(&ends);
+    let end = ask_all(&floor, policies, front.shape.buckets, &mut ends);
     Ok(Counted {
         version: front.shape.version,
         buckets: front.shape.buckets,

@@ -1,6 +1,6 @@
 //! Those who may hold aggregates back: each is told every verdict with its bucket, and then they are asked of each bucket, in
 //! their order.
-ghost use Rattle.std.specs.Prelude.{◌≡◌, ◌<◌, ◌≤◌, ◌^◌, ◌-◌, ℕ, ◌∷◌, map, is_none, length, not, position};
+ghost use Rattle.std.specs.Prelude.{◌≡◌, ◌<◌, ◌≤◌, ◌^◌, ◌-◌, ℕ, ◌∷◌, map, length, not, option_or, position};
 ghost use Rattle.std.specs.List.{range_with_len};
 ghost use Rattle.flp_policy.specs.Counts.{VerdictCounts, one_more_in, no_more};
 ghost use Rattle.flp_verdict.specs.Release.{first_withheld};
@@ -63,35 +63,34 @@ fn end_by(refusal: Option<u32>) -> End
     }
 }
 
-/// Asks the policies of each bucket how it ends, the floor first.
-pub(crate) fn ask_all(floor: &Floor, policies: &[Box<dyn Policy>], ends: &mut [End])
-    requires buckets { length ends.old ≤ 256 }
+/// The first of two ends, where it is withheld, and else the second.
+fn first_of(first: End, second: End) -> End
+    ensures { withheld_by result ≡ option_or (withheld_by first) (withheld_by second) }
+{
+    match first {
+        End::Released => second,
+        End::Withheld(_) => first,
+    }
+}
+
+/// Asks the policies of each of so many buckets how it ends, the floor first, and answers the first end that is withheld, or
+/// else released.
+pub(crate) fn ask_all(
+    floor: &Floor,
+    policies: &[Box<dyn Policy>],
+    buckets: u32,
+    ends: &mut [End],
+) -> End
+    requires buckets { (length ends.old ≡ buckets) × (buckets ≤ 256) }
     requires few { length policies.now < 2 ^ 32 - 1 }
-    ensures { map withheld_by ends.new ≡ map (λ bucket. position not (⟦<Floor as Policy>⟧.would floor.now no_more bucket ∷ map (λ p. would p no_more bucket) policies.now)) (range_with_len 0 (length ends.old)) }
+    ensures asked { map withheld_by ends.new ≡ map (λ bucket. position not (⟦<Floor as Policy>⟧.would floor.now no_more bucket ∷ map (λ p. would p no_more bucket) policies.now)) (range_with_len 0 buckets) }
+    ensures first { withheld_by result ≡ first_withheld (map withheld_by ends.new) }
 {
-    for bucket in 0..ends.len() {
-        ends[bucket] = end_by(first_refusal(floor, policies, bucket as u32));
+    let mut first = End::Released;
+    for bucket in 0..buckets {
+        let end = end_by(first_refusal(floor, policies, bucket));
+        ends[bucket as usize] = end;
+        first = first_of(first, end);
     }
-}
-
-/// The first of these ends that is withheld, or else released.
-pub(crate) fn first_end(ends: &[End]) -> End
-    ensures { withheld_by result ≡ first_withheld (map withheld_by ends.now) }
-{
-    for end in ends {
-        if !is_released(*end) {
-            return *end;
-        }
-    }
-    End::Released
-}
-
-/// Whether a bucket that ends so is released.
-fn is_released(end: End) -> bool
-    ensures { result ≡ is_none (withheld_by end) }
-{
-    match end {
-        End::Released => true,
-        End::Withheld(_) => false,
-    }
+    first
 }

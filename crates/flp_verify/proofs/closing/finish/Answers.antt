@@ -1,8 +1,9 @@
-use Rattle.std.proofs.Common.{◌≡◌, ◌∙◌, ℕ, Bool, List, ap, subst, refl}
+use Rattle.std.proofs.Common.{◌≡◌, ◌∙◌, ◌*◌, ℕ, Bool, List, length, ap, subst, refl}
 use Rattle.std.specs.Io.KnownBytes.{Appends}
 use Rattle.flp_io.specs.Writes.{TakesPrefix}
 use Rattle.flp_known.specs.Known.{known_in}
-use Rattle.flp_tally.specs.Rows.{AreSums}
+use Rattle.std.proofs.lemmas.List.FromFn.{length-map-range_with_len}
+use Rattle.flp_tally.specs.Rows.{total_of, AreSums}
 use Rattle.flp_verdict.specs.Release.{ending_by}
 use Rattle.flp_verify.specs.declared.counted.Counted.{Counted}
 use Rattle.flp_verify.specs.declared.counted.End.{End}
@@ -18,6 +19,16 @@ text-as : (counted : Counted) (claims : Bool) {counts : List ℕ} {ends : List E
     → ending_by counted.version counted.buckets counted.numbers.accepted (closing_by counted.outs counts ends words) claims (known_in counted.known) ≡ ending_of counted claims
 text-as counted claims counts ends words =
     λ i. ending_by counted.version counted.buckets counted.numbers.accepted (closing_by counted.outs (counts i) (ends i) (words i)) claims (known_in counted.known)
+
+pub write_ending-requires-clause-listed : goal.write_ending-requires-clause-listed
+write_ending-requires-clause-listed g c =
+    let counted = c.args.counted in
+    record {
+      counts = ap length c.as_slice.ensures ∙ counted.listed.0;
+      ends = ap length c.as_slice-2.ensures ∙ counted.listed.1;
+      totals = ap length (c.as_slice-3.ensures.value ∙ are-totals counted c.close_into.ensures.totals)
+          ∙ length-map-range_with_len (λ (e : ℕ). total_of e counted.seat.view.added) 0 (counted.buckets * counted.outs);
+    }
 
 pub returns-in-Err-clause-front : goal.returns-in-Err-clause-front
 returns-in-Err-clause-front g c =
