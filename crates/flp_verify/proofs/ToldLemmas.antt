@@ -1,6 +1,7 @@
 -- Lists whose elements are told something one after another, by what a test says of each.
 use Rattle.std.proofs.Common.{◌≡◌, ℕ, zero, suc, ◌+◌, ◌<◌, ◌≤◌, List, [], ◌∷◌, ◌++◌, length, get_or, map, set, take, Option, Bool, true, false, not, cond, ltb, Some, None, sym, refl, ap, ◌∙◌, arith, get_or-set_same, get_or-set_other, length-set, lt-ltb}
-use Rattle.std.specs.Prelude.{position, option_or}
+use Rattle.std.specs.Prelude.{position}
+use Rattle.std.specs.Option.{option_or}
 use Rattle.std.specs.List.{position_or_len, range_with_len}
 use Rattle.std.proofs.lemmas.Bool.Decides.{nat_tests}
 use Rattle.std.proofs.lemmas.List.{get_or-map, length-map, map-append, map-set, ext_get_or, take_more_set}

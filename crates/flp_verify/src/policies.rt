@@ -1,6 +1,7 @@
 //! Those who may hold aggregates back: each is told every verdict with its bucket, and then they are asked of each bucket, in
 //! their order.
-ghost use Rattle.std.specs.Prelude.{◌≡◌, ◌<◌, ◌≤◌, ◌^◌, ◌-◌, ℕ, ◌∷◌, map, length, not, option_or, position};
+ghost use Rattle.std.specs.Prelude.{◌≡◌, ◌<◌, ◌≤◌, ◌^◌, ◌-◌, ℕ, ◌∷◌, map, length, not, position};
+ghost use Rattle.std.specs.Option.{option_or};
 ghost use Rattle.std.specs.List.{range_with_len};
 ghost use Rattle.flp_policy.specs.Counts.{VerdictCounts, one_more_in, no_more};
 ghost use Rattle.flp_verdict.specs.Release.{first_withheld};
