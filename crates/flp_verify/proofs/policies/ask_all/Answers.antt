@@ -17,7 +17,7 @@ loop-bucket-preserved g c =
     record {
       size = length-set c.loop-bucket.ends i c.end_by-end.result ∙ so.size;
       asked = asked-more asked c.loop-bucket.ends i c.end_by-end.result inside (c.end_by-end.ensures ∙ c.first_refusal.ensures) so.asked;
-      first = first-next c.loop-bucket.ends i c.loop-bucket.first c.end_by-end.result c.first_of.result inside so.first c.first_of.ensures;
+      first = first-next c.loop-bucket.ends i c.loop-bucket.first c.end_by-end.result c.first_of-first.result inside so.first c.first_of-first.ensures;
     }
 
 pub returns-clause-asked : goal.returns-clause-asked
